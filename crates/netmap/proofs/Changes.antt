@@ -1,0 +1,78 @@
+-- What the questions of read, put and remove show where all are answered yes.
+use mathlib.Core.Path.{_≡_, sym, ap, _∙_, subst}
+use mathlib.Core.Bool.{Bool, true, false}
+use mathlib.Core.List.{List, []}
+use Prim.Native.Nat.{ℕ, _≤_, _<_}
+use native.Mathlib.Omega.{arith}
+use lib.Dec.{leb, ltb, eqb}
+use borrow.Author.Tests.{lt-ltb, le-leb, ne-eqb, ltb-true, leb-true, eqb-false, not-true}
+use Rattle.std.proofs.shelf.Tests.{and-parts}
+use Rattle.std.specs.Options.{isSome}
+use Rattle.std.specs.declared.option.Option.{Option}
+use Rattle.std.specs.declared.option.Option.the-variants.{Some, None}
+use Rattle.netmap.specs.declared.denial.Denial.{Denial}
+use Rattle.netmap.specs.declared.denial.Question.the-variants.{PlaceFilled}
+use Rattle.netmap.specs.declared.link.Link.{Link}
+use Rattle.netmap.specs.Asking.{first-no}
+use Rattle.netmap.specs.Changes.{place-questions, link-questions, put-questions, put-denial, remove-denial}
+use Rattle.netmap.specs.Denials.{of-map}
+use Rattle.netmap.specs.Net.{Net, Sound-link, link-at, places}
+use Rattle.netmap.specs.Opening.{size-questions, size-denial}
+use Rattle.netmap.proofs.Asking.{all-yes}
+
+pub record In-limits (n m : ℕ) : Type 0 where
+  pub low : 1 ≤ n
+  pub high : n ≤ 64
+  pub few : m ≤ 256
+
+pub sizes-pass : (n m : ℕ) → size-denial n m ≡ None → In-limits n m
+sizes-pass n m e =
+    let y = all-yes (size-questions n m) e in
+    let t = and-parts (leb 1 n) (leb n 64) (y .0) in
+    record { low = leb-true 1 n (t .0); high = leb-true n 64 (t .1); few = leb-true m 256 (y .1 .0) }
+
+pub sizes-granted : (n m : ℕ) → In-limits n m → size-denial n m ≡ None
+sizes-granted n m s = simp (le-leb _ _ (s .low), le-leb _ _ (s .high), le-leb _ _ (s .few))
+
+pub place-passes : (m p : ℕ) → first-no (place-questions m p) ≡ None → p < m
+place-passes m p e = ltb-true p m (all-yes (place-questions m p) e .0)
+
+-- a weight comes from 16 bits, so no question asks for its upper limit
+pub link-passes : (n : ℕ) (l : Link) (p : ℕ) → first-no (link-questions n l p) ≡ None → l .weight ≤ 65535 → Sound-link n l
+link-passes n l p e high =
+    let y = all-yes (link-questions n l p) e in
+    let t = and-parts (ltb (l .tail) n) (ltb (l .head) n) (y .0) in
+    record {
+      tail = ltb-true (l .tail) n (t .0);
+      head = ltb-true (l .head) n (t .1);
+      apart = eqb-false (l .tail) (l .head) (not-true _ (y .1 .0));
+      weight-low = omega (arith, ltb-true 0 (l .weight) (y .1 .1 .0));
+      weight-high = high;
+      delay = leb-true (l .delay .0) 100000 (y .1 .1 .1 .0);
+      figure = leb-true (l .figure) 1000000 (y .1 .1 .1 .1 .0);
+    }
+
+pub link-granted : (n : ℕ) (l : Link) (p : ℕ) → Sound-link n l → first-no (link-questions n l p) ≡ None
+link-granted n l p s = simp (lt-ltb _ _ (s .tail), lt-ltb _ _ (s .head), ne-eqb _ _ (s .apart), lt-ltb 0 (l .weight) (omega (arith, s .weight-low)), le-leb _ _ (s .delay), le-leb _ _ (s .figure))
+
+pub record Put-passes (net : Net) (p : ℕ) (l : Link) : Type 0 where
+  pub within : p < places net
+  pub link : Sound-link (net .nodes) l
+
+-- as a map asks the questions, of its own counts
+pub put-passes : (net : Net) (m p : ℕ) (l : Link) → m ≡ places net → first-no (put-questions (net .nodes) m p l) ≡ None → l .weight ≤ 65535 → (put-denial net p l ≡ None) × Put-passes net p l
+put-passes net m p l e none high =
+    let none' : put-denial net p l ≡ None = subst (λ x. first-no (put-questions (net .nodes) x p l) ≡ None) e none in
+    let y = all-yes (put-questions (net .nodes) (places net) p l) none' in
+    let within = ltb-true p (places net) (y .0) in
+    let asked : first-no (put-questions (net .nodes) (places net) p l) ≡ first-no (link-questions (net .nodes) l p) = simp (lt-ltb p (places net) within) in
+    (none', record { within = within; link = link-passes (net .nodes) l p (sym asked ∙ none') high })
+
+pub put-denied : (net : Net) (m p : ℕ) (l : Link) (d : Denial) → m ≡ places net → first-no (put-questions (net .nodes) m p l) ≡ Some d → put-denial net p l ≡ Some d
+put-denied net m p l d e some = subst (λ x. first-no (put-questions (net .nodes) x p l) ≡ Some d) e some
+
+pub remove-granted : (net : Net) (p : ℕ) → p < places net → isSome (link-at net p) ≡ true → remove-denial net p ≡ None
+remove-granted net p h e = simp (lt-ltb p (places net) h, e)
+
+pub remove-empty : (net : Net) (p : ℕ) → p < places net → isSome (link-at net p) ≡ false → remove-denial net p ≡ Some (of-map PlaceFilled p)
+remove-empty net p h e = simp (lt-ltb p (places net) h, e)

@@ -1,0 +1,37 @@
+use mathlib.Core.Path.{refl, _∙_}
+use mathlib.Core.Logic.{∥∥₁-map}
+use native.Mathlib.Omega.{arith}
+use borrow.Author.Needs.{needs}
+use lib.ListN.{set, length-set}
+use Rattle.std.specs.declared.option.Option.the-variants.{Some}
+use Rattle.netmap.specs.Changes.{put-denial, with-place}
+use Rattle.netmap.specs.Tables.{table-net}
+use Rattle.netmap.proofs.Asking.{grants, changes}
+use Rattle.netmap.proofs.Soundness.{fit-some}
+use Rattle.netmap.proofs.Tables.{first-set, first-sound, may-put}
+use Rattle.netmap.proofs.table.calls.TableMap.put.Needs as need
+
+pub ghost-self : need.ghost-self
+ghost-self c =
+    let t = c .args .self .now in
+    let p = c .args .place in
+    let o = Some (c .args .link) in
+    let s = may-put t p (c .args .link) (c .in-Continue-check-put .ensures tt) (search needs) .1 in (
+      omega (arith, length-set (t .records .now) p o, t .within),
+      (∥∥₁-map (t .ok) (first-sound (t .nodes) (t .places) (t .records .now) p o (s .within) (fit-some (t .nodes) (c .args .link) (s .link))), tt),
+    )
+
+pub returns : need.returns
+returns c =
+    let t = c .args .self .now in
+    let xs = t .records .now in
+    let p = c .args .place in
+    let o = Some (c .args .link) in
+    let d = put-denial (table-net t) p (c .args .link) in
+    let none = may-put t p (c .args .link) (c .in-Continue-check-put .ensures tt) (search needs) .0 in
+    record {
+      reply = grants d tt none;
+      after = first-set (t .nodes) (t .places) xs p o ∙ changes d (with-place (table-net t) p o) (table-net t) none;
+      holds = changes d (set xs p o) xs none;
+      named = refl;
+    }

@@ -1,0 +1,6 @@
+use borrow.Author.Needs.{needs}
+use Rattle.tariff.proofs.CostLaws.{cost-path}
+use Rattle.tariff.proofs.cost.calls.CostTariff.join.Needs as need
+
+pub returns : need.returns
+returns c = cost-path _ _ (search needs)

@@ -1,0 +1,4 @@
+pub mod Costs
+pub mod Joinings
+pub mod Rankings
+pub mod Scarcities
