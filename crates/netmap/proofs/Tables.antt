@@ -8,7 +8,7 @@ use Rattle.std.proofs.shelf.Lists.{same-lists, take-all, length-take-le, getD-t
 use Rattle.std.specs.declared.option.Option.{Option}
 use Rattle.std.specs.declared.option.Option.the-variants.{Some, None}
 use Rattle.std.specs.declared.result.Result.{Result}
-use Rattle.std.specs.declared.result.Result.the-variants.{Ok}
+use Rattle.std.specs.declared.result.Result.the-variants.{Ok, Err}
 use Rattle.netmap.specs.declared.denial.Denial.{Denial}
 use Rattle.netmap.specs.declared.link.Link.{Link}
 use Rattle.netmap.specs.declared.table.RecordTable.{RecordTable}
@@ -17,8 +17,8 @@ use Rattle.netmap.specs.Changes.{place-questions, put-questions, put-denial, w
 use Rattle.netmap.specs.Net.{Net, Sound, places, link-at}
 use Rattle.netmap.specs.Opening.{first-places, all-empty}
 use Rattle.netmap.specs.Tables.{table-net}
-use Rattle.netmap.proofs.Asking.{granted}
-use Rattle.netmap.proofs.Changes.{Put-passes, put-passes, place-passes}
+use Rattle.netmap.proofs.Asking.{granted, denied}
+use Rattle.netmap.proofs.Changes.{Put-passes, put-passes, put-denied, place-passes}
 use Rattle.netmap.proofs.Soundness.{Fit, sound-with, sound-empty}
 
 abbrev net-of : ℕ → List (Option Link) → Net
@@ -65,3 +65,7 @@ in-use t p e =
 pub may-put : (t : RecordTable) (p : ℕ) (l : Link) → _≡_ {A = Result (Unit {0}) Denial} (Ok tt) (reply (first-no (put-questions (t .nodes) (t .places) p l)) tt) → l .weight ≤ 65535 → (put-denial (table-net t) p l ≡ None) × Put-passes (table-net t) p l
 may-put t p l e high =
     put-passes (table-net t) (t .places) p l (first-count (t .nodes) (t .places) (t .records .now) (t .within)) (granted (first-no (put-questions (t .nodes) (t .places) p l)) tt tt e) high
+
+pub may-not-put : (t : RecordTable) (p : ℕ) (l : Link) (x : Denial) → _≡_ {A = Result (Unit {0}) Denial} (Err x) (reply (first-no (put-questions (t .nodes) (t .places) p l)) tt) → put-denial (table-net t) p l ≡ Some x
+may-not-put t p l x e =
+    put-denied (table-net t) (t .places) p l x (first-count (t .nodes) (t .places) (t .records .now) (t .within)) (denied (first-no (put-questions (t .nodes) (t .places) p l)) x tt e)
