@@ -1,24 +1,28 @@
 -- What the questions of read, put and remove show where all are answered yes.
 use mathlib.Core.Path.{_≡_, sym, ap, _∙_, subst}
 use mathlib.Core.Bool.{Bool, true, false}
+use mathlib.Core.Logic.{_⊎_, ⊎-elim}
 use mathlib.Core.List.{List, []}
 use Prim.Native.Nat.{ℕ, _≤_, _<_}
 use native.Mathlib.Omega.{arith}
 use lib.Dec.{leb, ltb, eqb}
 use borrow.Author.Tests.{lt-ltb, le-leb, ne-eqb, ltb-true, leb-true, eqb-false, not-true}
-use Rattle.std.proofs.shelf.Tests.{and-parts}
+use Rattle.std.proofs.shelf.Lists.{getD-past}
+use Rattle.std.proofs.shelf.Tests.{and-parts, cases-lt}
 use Rattle.std.specs.Options.{isSome}
 use Rattle.std.specs.declared.option.Option.{Option}
 use Rattle.std.specs.declared.option.Option.the-variants.{Some, None}
+use Rattle.std.specs.declared.result.Result.{Result}
+use Rattle.std.specs.declared.result.Result.the-variants.{Ok, Err}
 use Rattle.netmap.specs.declared.denial.Denial.{Denial}
 use Rattle.netmap.specs.declared.denial.Question.the-variants.{PlaceFilled}
 use Rattle.netmap.specs.declared.link.Link.{Link}
-use Rattle.netmap.specs.Asking.{first-no}
-use Rattle.netmap.specs.Changes.{place-questions, link-questions, put-questions, put-denial, remove-denial}
+use Rattle.netmap.specs.Asking.{first-no, reply}
+use Rattle.netmap.specs.Changes.{place-questions, filled-question, link-questions, put-questions, read-denial, put-denial, remove-denial, read-reply}
 use Rattle.netmap.specs.Denials.{of-map}
 use Rattle.netmap.specs.Net.{Net, Sound-link, link-at, places}
 use Rattle.netmap.specs.Opening.{size-questions, size-denial}
-use Rattle.netmap.proofs.Asking.{all-yes}
+use Rattle.netmap.proofs.Asking.{granted, denied, all-yes, first-before}
 
 pub record In-limits (n m : ℕ) : Type 0 where
   pub low : 1 ≤ n
@@ -59,20 +63,42 @@ pub record Put-passes (net : Net) (p : ℕ) (l : Link) : Type 0 where
   pub within : p < places net
   pub link : Sound-link (net .nodes) l
 
--- as a map asks the questions, of its own counts
-pub put-passes : (net : Net) (m p : ℕ) (l : Link) → m ≡ places net → first-no (put-questions (net .nodes) m p l) ≡ None → l .weight ≤ 65535 → (put-denial net p l ≡ None) × Put-passes net p l
-put-passes net m p l e none high =
-    let none' : put-denial net p l ≡ None = subst (λ x. first-no (put-questions (net .nodes) x p l) ≡ None) e none in
-    let y = all-yes (put-questions (net .nodes) (places net) p l) none' in
-    let within = ltb-true p (places net) (y .0) in
-    let asked : first-no (put-questions (net .nodes) (places net) p l) ≡ first-no (link-questions (net .nodes) l p) = simp (lt-ltb p (places net) within) in
-    (none', record { within = within; link = link-passes (net .nodes) l p (sym asked ∙ none') high })
+-- as a map asks the questions, of its own count of places
+module _ (net : Net) (m p : ℕ) (count : m ≡ places net) where
+  pub in-use : _≡_ {A = Result (Unit {0}) Denial} (Ok tt) (reply (first-no (place-questions m p)) tt) → (p < m) × (p < places net)
+  in-use e =
+      let h = place-passes m p (granted (first-no (place-questions m p)) tt tt e) in
+      (h, subst (λ x. p < x) count h)
 
-pub put-denied : (net : Net) (m p : ℕ) (l : Link) (d : Denial) → m ≡ places net → first-no (put-questions (net .nodes) m p l) ≡ Some d → put-denial net p l ≡ Some d
-put-denied net m p l d e some = subst (λ x. first-no (put-questions (net .nodes) x p l) ≡ Some d) e some
+  pub read-denied : (x : Denial) → _≡_ {A = Result (Unit {0}) Denial} (Err x) (reply (first-no (place-questions m p)) tt) → read-denial net p ≡ Some x
+  read-denied x e = subst (λ c. first-no (place-questions c p) ≡ Some x) count (denied (first-no (place-questions m p)) x tt e)
+
+  pub remove-denied : (x : Denial) → _≡_ {A = Result (Unit {0}) Denial} (Err x) (reply (first-no (place-questions m p)) tt) → remove-denial net p ≡ Some x
+  remove-denied x e = first-before (place-questions (places net) p) (filled-question net p) x (read-denied x e)
+
+  pub may-put : (l : Link) → _≡_ {A = Result (Unit {0}) Denial} (Ok tt) (reply (first-no (put-questions (net .nodes) m p l)) tt) → l .weight ≤ 65535 → (put-denial net p l ≡ None) × Put-passes net p l
+  may-put l e high =
+      let none : put-denial net p l ≡ None = subst (λ x. first-no (put-questions (net .nodes) x p l) ≡ None) count (granted (first-no (put-questions (net .nodes) m p l)) tt tt e) in
+      let within = ltb-true p (places net) (all-yes (put-questions (net .nodes) (places net) p l) none .0) in
+      let asked : put-denial net p l ≡ first-no (link-questions (net .nodes) l p) = simp (lt-ltb p (places net) within) in
+      (none, record { within = within; link = link-passes (net .nodes) l p (sym asked ∙ none) high })
+
+  pub may-not-put : (l : Link) (x : Denial) → _≡_ {A = Result (Unit {0}) Denial} (Err x) (reply (first-no (put-questions (net .nodes) m p l)) tt) → put-denial net p l ≡ Some x
+  may-not-put l x e = subst (λ c. first-no (put-questions (net .nodes) c p l) ≡ Some x) count (denied (first-no (put-questions (net .nodes) m p l)) x tt e)
+
+pub read-granted : (net : Net) (p : ℕ) → p < places net → Ok (link-at net p) ≡ read-reply net p
+read-granted net p h = sym (simp (lt-ltb p (places net) h))
 
 pub remove-granted : (net : Net) (p : ℕ) → p < places net → isSome (link-at net p) ≡ true → remove-denial net p ≡ None
 remove-granted net p h e = simp (lt-ltb p (places net) h, e)
 
 pub remove-empty : (net : Net) (p : ℕ) → p < places net → isSome (link-at net p) ≡ false → remove-denial net p ≡ Some (of-map PlaceFilled p)
 remove-empty net p h e = simp (lt-ltb p (places net) h, e)
+
+-- a place whose read is denied does not exist
+pub read-nothing : (net : Net) (p : ℕ) (d : Denial) → read-denial net p ≡ Some d → link-at net p ≡ None
+read-nothing net p d e =
+    ⊎-elim
+    (λ (h : p < places net). let none : read-denial net p ≡ None = simp (lt-ltb p (places net) h) in let z : _≡_ {A = ℕ} 0 1 = cc in absurd (omega arith))
+    (λ (h : places net ≤ p). getD-past (net .links) p None h)
+    (cases-lt p (places net))

@@ -1,4 +1,12 @@
 pub mod Asking
 pub mod Changes
+pub mod Decoding
+pub mod Examining
+pub mod ImageNets
+pub mod Layouts
+pub mod PlaceBytes
 pub mod Soundness
 pub mod Tables
+pub mod Writing
+pub mod RoundTrips
+pub mod Storing

@@ -32,8 +32,11 @@ link-questions n l p =
 abbrev pub put-questions : ℕ → ℕ → ℕ → Link → List Asked
 put-questions n count p l = place-questions count p ++ link-questions n l p
 
+abbrev pub filled-question : Net → ℕ → List Asked
+filled-question net p = asks (of-map PlaceFilled p) (isSome (link-at net p)) ∷ []
+
 abbrev pub remove-questions : Net → ℕ → List Asked
-remove-questions net p = place-questions (places net) p ++ asks (of-map PlaceFilled p) (isSome (link-at net p)) ∷ []
+remove-questions net p = place-questions (places net) p ++ filled-question net p
 
 abbrev pub read-denial : Net → ℕ → Option Denial
 read-denial net p = first-no (place-questions (places net) p)

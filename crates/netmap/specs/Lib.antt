@@ -1,7 +1,12 @@
 pub mod Asking
 pub mod Changes
 pub mod Denials
+pub mod Images
+pub mod Layout
 pub mod Net
 pub mod Opening
+pub mod Reading
 pub mod Soundness
+pub mod Spans
+pub mod Storing
 pub mod Tables

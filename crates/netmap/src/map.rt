@@ -1,6 +1,6 @@
 // What every map answers, whatever it stands on.
 ghost use mathlib.Core.Path.{_≡_};
-ghost use Rattle.netmap.specs.Net.{Net, Sound, places as placeCount};
+ghost use Rattle.netmap.specs.Net.{Net, Sound, places as placeCount, link-at};
 ghost use Rattle.netmap.specs.Changes.{put-reply, after-put, remove-reply, after-remove, read-reply};
 use crate::denial::Denial;
 use crate::link::Link;
@@ -28,4 +28,14 @@ pub trait Map {
     fn remove(&mut self, place: usize) -> Result<(), Denial>
         ensures reply { λ r. ⌜ r ≡ remove-reply (meaning (now (self .entry))) place ⌝ }
         ensures after { λ _. ⌜ meaning (now (self .exit)) ≡ after-remove (meaning (now (self .entry))) place ⌝ };
+}
+
+// The link at a place, or nothing where the place is empty or there is no such place.
+pub fn held<M: Map>(map: &M, place: usize) -> Option<Link>
+    ensures { λ r. ⌜ r ≡ link-at (meaning (now (map .entry))) place ⌝ }
+{
+    match map.read(place) {
+        Ok(held) => held,
+        Err(_) => None,
+    }
 }

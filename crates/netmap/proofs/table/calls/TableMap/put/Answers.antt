@@ -8,8 +8,9 @@ use Rattle.std.specs.declared.option.Option.the-variants.{Some}
 use Rattle.netmap.specs.Changes.{put-denial, with-place}
 use Rattle.netmap.specs.Tables.{table-net}
 use Rattle.netmap.proofs.Asking.{grants, denies, changes, keeps}
+use Rattle.netmap.proofs.Changes.{may-put, may-not-put}
 use Rattle.netmap.proofs.Soundness.{fit-some}
-use Rattle.netmap.proofs.Tables.{first-set, first-sound, may-put, may-not-put}
+use Rattle.netmap.proofs.Tables.{table-count, first-set, first-sound}
 use Rattle.netmap.proofs.table.calls.TableMap.put.Needs as need
 
 pub returns-in-Break-check-put : need.returns-in-Break-check-put
@@ -20,7 +21,7 @@ returns-in-Break-check-put c =
     let o = Some (c .args .link) in
     let x = c .in-Break-check-put .field-0 .0 in
     let d = put-denial (table-net t) p (c .args .link) in
-    let some = may-not-put t p (c .args .link) x (c .in-Break-check-put .ensures tt) in
+    let some = may-not-put (table-net t) (t .places) p (table-count t) (c .args .link) x (c .in-Break-check-put .ensures tt) in
     let out = err-from-errBy (c .from-residual .result) (c .from-residual .ensures .1) in
     record {
       reply = rw (out .1, out .2) (denies d x tt some);
@@ -34,7 +35,7 @@ ghost-self c =
     let t = c .args .self .now in
     let p = c .args .place in
     let o = Some (c .args .link) in
-    let s = may-put t p (c .args .link) (c .in-Continue-check-put .ensures tt) (search needs) .1 in (
+    let s = may-put (table-net t) (t .places) p (table-count t) (c .args .link) (c .in-Continue-check-put .ensures tt) (search needs) .1 in (
       omega (arith, length-set (t .records .now) p o, t .within),
       (∥∥₁-map (t .ok) (first-sound (t .nodes) (t .places) (t .records .now) p o (s .within) (fit-some (t .nodes) (c .args .link) (s .link))), tt),
     )
@@ -46,7 +47,7 @@ returns c =
     let p = c .args .place in
     let o = Some (c .args .link) in
     let d = put-denial (table-net t) p (c .args .link) in
-    let none = may-put t p (c .args .link) (c .in-Continue-check-put .ensures tt) (search needs) .0 in
+    let none = may-put (table-net t) (t .places) p (table-count t) (c .args .link) (c .in-Continue-check-put .ensures tt) (search needs) .0 in
     record {
       reply = grants d tt none;
       after = first-set (t .nodes) (t .places) xs p o ∙ changes d (with-place (table-net t) p o) (table-net t) none;

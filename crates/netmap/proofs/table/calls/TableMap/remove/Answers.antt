@@ -12,9 +12,9 @@ use Rattle.netmap.specs.Denials.{of-map}
 use Rattle.netmap.specs.Net.{link-at}
 use Rattle.netmap.specs.Tables.{table-net}
 use Rattle.netmap.proofs.Asking.{grants, denies, changes, keeps}
-use Rattle.netmap.proofs.Changes.{remove-granted, remove-empty}
+use Rattle.netmap.proofs.Changes.{in-use, remove-granted, remove-empty}
 use Rattle.netmap.proofs.Soundness.{fit-none}
-use Rattle.netmap.proofs.Tables.{first-read, first-set, first-sound, in-use}
+use Rattle.netmap.proofs.Tables.{table-count, first-read, first-set, first-sound}
 use Rattle.netmap.proofs.table.calls.TableMap.remove.Needs as need
 
 pub returns-then-is-none : need.returns-then-is-none
@@ -22,7 +22,7 @@ returns-then-is-none c =
     let t = c .args .self .now in
     let p = c .args .place in
     let net = table-net t in
-    let w = in-use t p (c .in-Continue-check-place .ensures tt) in
+    let w = in-use (table-net t) (t .places) p (table-count t) (c .in-Continue-check-place .ensures tt) in
     let empty : isSome (link-at net p) ≡ false = ap isSome (first-read (t .nodes) (t .places) (t .records .now) p (w .0)) ∙ search needs in
     let some = remove-empty net p (w .1) empty in
     let d = remove-denial net p in
@@ -37,7 +37,7 @@ pub ghost-self : need.ghost-self
 ghost-self c =
     let t = c .args .self .now in
     let p = c .args .place in
-    let w = in-use t p (c .in-Continue-check-place .ensures tt) in (
+    let w = in-use (table-net t) (t .places) p (table-count t) (c .in-Continue-check-place .ensures tt) in (
       omega (arith, length-set (t .records .now) p None, t .within),
       (∥∥₁-map (t .ok) (first-sound (t .nodes) (t .places) (t .records .now) p None (w .1) (fit-none (t .nodes))), tt),
     )
@@ -47,7 +47,7 @@ returns c =
     let t = c .args .self .now in
     let p = c .args .place in
     let net = table-net t in
-    let w = in-use t p (c .in-Continue-check-place .ensures tt) in
+    let w = in-use (table-net t) (t .places) p (table-count t) (c .in-Continue-check-place .ensures tt) in
     let full : isSome (link-at net p) ≡ true = ap isSome (first-read (t .nodes) (t .places) (t .records .now) p (w .0)) ∙ search needs in
     let none = remove-granted net p (w .1) full in
     let d = remove-denial net p in
