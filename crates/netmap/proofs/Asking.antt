@@ -24,22 +24,12 @@ pub denied : {A : Type 0} (d : Option Denial) (x : Denial) (a : A) → _≡_ {A 
 denied None x a e = let z : _≡_ {A = ℕ} 0 1 = cc in absurd (omega arith)
 denied (Some d) x a e = cc
 
-pub granted-value : {A : Type 0} (d : Option Denial) (x a : A) → _≡_ {A = Result A Denial} (Ok x) (reply d a) → x ≡ a
-granted-value None x a e = cc
-granted-value (Some d) x a e = let z : _≡_ {A = ℕ} 0 1 = cc in absurd (omega arith)
-
--- what the denial, or none, tells of the reply and of what is left
+-- what no denial tells of the reply and of what is left
 pub grants : {A : Type 0} (d : Option Denial) (a : A) → d ≡ None → _≡_ {A = Result A Denial} (Ok a) (reply d a)
 grants d a e = let f : Option Denial → Result _ Denial = λ x. reply x a in sym (ap f e)
 
-pub denies : {A : Type 0} (d : Option Denial) (x : Denial) (a : A) → d ≡ Some x → _≡_ {A = Result A Denial} (Err x) (reply d a)
-denies d x a e = let f : Option Denial → Result _ Denial = λ y. reply y a in sym (ap f e)
-
 pub changes : {A : Type 0} (d : Option Denial) (a b : A) → d ≡ None → a ≡ unless d a b
 changes d a b e = let f : Option Denial → _ = λ x. unless x a b in sym (ap f e)
-
-pub keeps : {A : Type 0} (d : Option Denial) (x : Denial) (a b : A) → d ≡ Some x → b ≡ unless d a b
-keeps d x a b e = let f : Option Denial → _ = λ y. unless y a b in sym (ap f e)
 
 -- none answered no: each answered yes
 abbrev Each-yes : List Asked → Type 0

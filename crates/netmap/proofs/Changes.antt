@@ -1,28 +1,24 @@
--- What the questions of read, put and remove show where all are answered yes.
-use mathlib.Core.Path.{_≡_, sym, ap, _∙_, subst}
-use mathlib.Core.Bool.{Bool, true, false}
+-- What the questions of opening, reading and putting show where all are answered yes.
+use mathlib.Core.Path.{_≡_, sym, subst, _∙_}
+use mathlib.Core.Bool.{true}
 use mathlib.Core.Logic.{_⊎_, ⊎-elim}
-use mathlib.Core.List.{List, []}
 use Prim.Native.Nat.{ℕ, _≤_, _<_}
 use native.Mathlib.Omega.{arith}
 use lib.Dec.{leb, ltb, eqb}
 use borrow.Author.Tests.{lt-ltb, le-leb, ne-eqb, ltb-true, leb-true, eqb-false, not-true}
 use Rattle.std.proofs.shelf.Lists.{getD-past}
 use Rattle.std.proofs.shelf.Tests.{and-parts, cases-lt}
-use Rattle.std.specs.Options.{isSome}
-use Rattle.std.specs.declared.option.Option.{Option}
 use Rattle.std.specs.declared.option.Option.the-variants.{Some, None}
 use Rattle.std.specs.declared.result.Result.{Result}
 use Rattle.std.specs.declared.result.Result.the-variants.{Ok, Err}
 use Rattle.netmap.specs.declared.denial.Denial.{Denial}
-use Rattle.netmap.specs.declared.denial.Question.the-variants.{PlaceFilled}
 use Rattle.netmap.specs.declared.link.Link.{Link}
-use Rattle.netmap.specs.Asking.{first-no, reply}
-use Rattle.netmap.specs.Changes.{place-questions, filled-question, link-questions, put-questions, read-denial, put-denial, remove-denial, read-reply}
-use Rattle.netmap.specs.Denials.{of-map}
-use Rattle.netmap.specs.Net.{Net, Sound-link, link-at, places}
+use Rattle.netmap.specs.Asking.{first-no, reply, Checks}
+use Rattle.netmap.specs.Changes.{place-questions, link-questions, put-questions, read-denial, put-denial}
+use Rattle.netmap.specs.Net.{Net, Sound-link, Fit, link-at, places}
 use Rattle.netmap.specs.Opening.{size-questions, size-denial}
-use Rattle.netmap.proofs.Asking.{granted, denied, all-yes, first-before}
+use Rattle.netmap.proofs.Asking.{granted, denied, all-yes}
+use Rattle.netmap.proofs.Soundness.{fit-some}
 
 pub record In-limits (n m : ℕ) : Type 0 where
   pub low : 1 ≤ n
@@ -59,41 +55,21 @@ link-passes n l p e high =
 pub link-granted : (n : ℕ) (l : Link) (p : ℕ) → Sound-link n l → first-no (link-questions n l p) ≡ None
 link-granted n l p s = simp (lt-ltb _ _ (s .tail), lt-ltb _ _ (s .head), ne-eqb _ _ (s .apart), lt-ltb 0 (l .weight) (omega (arith, s .weight-low)), le-leb _ _ (s .delay), le-leb _ _ (s .figure))
 
-pub record Put-passes (net : Net) (p : ℕ) (l : Link) : Type 0 where
-  pub within : p < places net
-  pub link : Sound-link (net .nodes) l
-
 -- as a map asks the questions, of its own count of places
 module _ (net : Net) (m p : ℕ) (count : m ≡ places net) where
-  pub in-use : _≡_ {A = Result (Unit {0}) Denial} (Ok tt) (reply (first-no (place-questions m p)) tt) → (p < m) × (p < places net)
-  in-use e =
-      let h = place-passes m p (granted (first-no (place-questions m p)) tt tt e) in
-      (h, subst (λ x. p < x) count h)
+  pub read-checks : (r : Result (Unit {0}) Denial) → r ≡ reply (first-no (place-questions m p)) tt → Checks (read-denial net p) (p < m) r
+  read-checks (Ok u) e =
+      let none = granted (first-no (place-questions m p)) u tt e in
+      (subst (λ x. first-no (place-questions x p) ≡ None) count none, place-passes m p none)
+  read-checks (Err x) e = subst (λ c. first-no (place-questions c p) ≡ Some x) count (denied (first-no (place-questions m p)) x tt e)
 
-  pub read-denied : (x : Denial) → _≡_ {A = Result (Unit {0}) Denial} (Err x) (reply (first-no (place-questions m p)) tt) → read-denial net p ≡ Some x
-  read-denied x e = subst (λ c. first-no (place-questions c p) ≡ Some x) count (denied (first-no (place-questions m p)) x tt e)
-
-  pub remove-denied : (x : Denial) → _≡_ {A = Result (Unit {0}) Denial} (Err x) (reply (first-no (place-questions m p)) tt) → remove-denial net p ≡ Some x
-  remove-denied x e = first-before (place-questions (places net) p) (filled-question net p) x (read-denied x e)
-
-  pub may-put : (l : Link) → _≡_ {A = Result (Unit {0}) Denial} (Ok tt) (reply (first-no (put-questions (net .nodes) m p l)) tt) → l .weight ≤ 65535 → (put-denial net p l ≡ None) × Put-passes net p l
-  may-put l e high =
-      let none : put-denial net p l ≡ None = subst (λ x. first-no (put-questions (net .nodes) x p l) ≡ None) count (granted (first-no (put-questions (net .nodes) m p l)) tt tt e) in
-      let within = ltb-true p (places net) (all-yes (put-questions (net .nodes) (places net) p l) none .0) in
-      let asked : put-denial net p l ≡ first-no (link-questions (net .nodes) l p) = simp (lt-ltb p (places net) within) in
-      (none, record { within = within; link = link-passes (net .nodes) l p (sym asked ∙ none) high })
-
-  pub may-not-put : (l : Link) (x : Denial) → _≡_ {A = Result (Unit {0}) Denial} (Err x) (reply (first-no (put-questions (net .nodes) m p l)) tt) → put-denial net p l ≡ Some x
-  may-not-put l x e = subst (λ c. first-no (put-questions (net .nodes) c p l) ≡ Some x) count (denied (first-no (put-questions (net .nodes) m p l)) x tt e)
-
-pub read-granted : (net : Net) (p : ℕ) → p < places net → Ok (link-at net p) ≡ read-reply net p
-read-granted net p h = sym (simp (lt-ltb p (places net) h))
-
-pub remove-granted : (net : Net) (p : ℕ) → p < places net → isSome (link-at net p) ≡ true → remove-denial net p ≡ None
-remove-granted net p h e = simp (lt-ltb p (places net) h, e)
-
-pub remove-empty : (net : Net) (p : ℕ) → p < places net → isSome (link-at net p) ≡ false → remove-denial net p ≡ Some (of-map PlaceFilled p)
-remove-empty net p h e = simp (lt-ltb p (places net) h, e)
+  pub put-checks : (l : Link) → l .weight ≤ 65535 → (r : Result (Unit {0}) Denial) → r ≡ reply (first-no (put-questions (net .nodes) m p l)) tt → Checks (put-denial net p l) ((p < m) × Fit (net .nodes) (Some l)) r
+  put-checks l high (Ok u) e =
+      let none = granted (first-no (put-questions (net .nodes) m p l)) u tt e in
+      let within = ltb-true p m (all-yes (put-questions (net .nodes) m p l) none .0) in
+      let asked : first-no (put-questions (net .nodes) m p l) ≡ first-no (link-questions (net .nodes) l p) = simp (lt-ltb p m within) in
+      (subst (λ x. first-no (put-questions (net .nodes) x p l) ≡ None) count none, (within, fit-some (net .nodes) l (link-passes (net .nodes) l p (sym asked ∙ none) high)))
+  put-checks l high (Err x) e = subst (λ c. first-no (put-questions (net .nodes) c p l) ≡ Some x) count (denied (first-no (put-questions (net .nodes) m p l)) x tt e)
 
 -- a place whose read is denied does not exist
 pub read-nothing : (net : Net) (p : ℕ) (d : Denial) → read-denial net p ≡ Some d → link-at net p ≡ None

@@ -9,12 +9,12 @@ use Rattle.netmap.specs.declared.image.Image.{Image}
 use Rattle.netmap.specs.declared.link.Link.{Link}
 use Rattle.netmap.specs.Images.{image-net, image-sound}
 use Rattle.netmap.specs.Layout.{encode}
-use Rattle.netmap.specs.Net.{Sound, places}
+use Rattle.netmap.specs.Net.{Fit, Sound, places}
 use Rattle.netmap.specs.Reading.{decode}
 use Rattle.netmap.specs.Spans.{Place-written}
 use Rattle.netmap.proofs.Decoding.{decode-places}
 use Rattle.netmap.proofs.Layouts.{image-lays-out}
-use Rattle.netmap.proofs.Soundness.{Fit, sound-empty}
+use Rattle.netmap.proofs.Soundness.{sound-empty}
 use Rattle.netmap.proofs.Writing.{Changed, changed}
 
 pub image-count : (t : Image) → t .places ≡ places (image-net t)

@@ -18,12 +18,12 @@ use Rattle.netmap.specs.Asking.{asks, first-no}
 use Rattle.netmap.specs.Changes.{link-questions}
 use Rattle.netmap.specs.Denials.{of-map}
 use Rattle.netmap.specs.Layout.{ends, figures}
-use Rattle.netmap.specs.Net.{Sound-link}
+use Rattle.netmap.specs.Net.{Fit, Sound-link}
 use Rattle.netmap.specs.Reading.{two-at, four-at, ends-at, figures-at, microseconds, link-in, marked-empty, blank, place-of, field-questions}
 use Rattle.netmap.specs.Spans.{At-place}
 use Rattle.netmap.proofs.Asking.{all-yes}
 use Rattle.netmap.proofs.Changes.{link-passes, link-granted}
-use Rattle.netmap.proofs.Soundness.{Fit, fit-none, fit-some}
+use Rattle.netmap.proofs.Soundness.{fit-none, fit-some}
 
 -- numbers of two and of four bytes
 pub two-is : (a b n : ℕ) → a ≡ n / 256 % 256 → b ≡ n % 256 → n ≤ 65535 → a * 256 + b ≡ n

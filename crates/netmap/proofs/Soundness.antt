@@ -11,15 +11,11 @@ use Rattle.std.proofs.shelf.Lists.{getD-past}
 use Rattle.std.specs.declared.option.Option.{Option}
 use Rattle.std.specs.declared.option.Option.the-variants.{Some, None}
 use Rattle.netmap.specs.declared.link.Link.{Link}
-use Rattle.netmap.specs.Net.{Net, Sound-link, Sound}
+use Rattle.netmap.specs.Net.{Net, Sound-link, Fit, Sound}
 use Rattle.netmap.specs.Changes.{with-place}
 
 pub none-some : (o : Option Link) (l : Link) → o ≡ None → o ≡ Some l → ⊥
 none-some o l p q = let z : _≡_ {A = ℕ} 0 1 = cc in omega arith
-
--- what a place may hold, in a network of n nodes: nothing, or a sound link
-abbrev pub Fit : ℕ → Option Link → Type 0
-Fit n o = (l : Link) → o ≡ Some l → Sound-link n l
 
 pub fit-none : (n : ℕ) → Fit n None
 fit-none n l e = let z : _≡_ {A = ℕ} 0 1 = cc in absurd (omega arith)

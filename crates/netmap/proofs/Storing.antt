@@ -4,7 +4,6 @@ use mathlib.Core.Logic.{_⊎_, ⊎-elim}
 use mathlib.Core.List.{List, _++_}
 use Prim.Native.Nat.{ℕ, _+_, _*_, _-_, _≤_, _<_}
 use native.Mathlib.Omega.{arith}
-use borrow.Author.Tests.{le-leb}
 use lib.ListN.{length, getD, take, drop, length-drop}
 use lib.Seq.{take-append-le}
 use Rattle.std.proofs.shelf.Lists.{same-lists, getD-take, getD-drop, getD-default, length-take-le, take-append-drop, take-all, getD-append-left, getD-append-add}
@@ -15,7 +14,7 @@ use Rattle.netmap.specs.declared.link.Link.{Link}
 use Rattle.netmap.specs.Layout.{two-bytes, encode, image-size}
 use Rattle.netmap.specs.Net.{Net, Sound, places, link-at}
 use Rattle.netmap.specs.Spans.{Written, At-place, Place-written}
-use Rattle.netmap.specs.Storing.{store-denial, stored, Opens-as}
+use Rattle.netmap.specs.Storing.{stored, Opens-as}
 use Rattle.netmap.proofs.Layouts.{Lays-out, header, encode-lays-out, lays-out-encode}
 use Rattle.netmap.proofs.RoundTrips.{opens-as}
 use Rattle.netmap.proofs.Writing.{place-kept, sizes-outside, past-outside}
@@ -90,9 +89,6 @@ all-stored old first mid new net nodes counted s room =
     ∙ ap (λ x. x ++ drop n new) (sym (lays-out-encode (take n new) net laid))
     ∙ ap (λ x. encode net ++ x) rest
     ∙ ap (λ x. encode net ++ drop x old) (sym el)
-
-pub store-granted : (net : Net) (room : ℕ) → image-size (places net) ≤ room → store-denial net room ≡ None
-store-granted net room h = simp (le-leb (image-size (places net)) room h)
 
 -- what was stored opens as the same network
 pub stored-opens : (net : Net) (space : List ℕ) → Sound net → Opens-as (take (image-size (places net)) (stored net space)) net

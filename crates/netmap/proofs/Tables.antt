@@ -10,10 +10,10 @@ use Rattle.std.specs.declared.option.Option.the-variants.{Some, None}
 use Rattle.netmap.specs.declared.link.Link.{Link}
 use Rattle.netmap.specs.declared.table.RecordTable.{RecordTable}
 use Rattle.netmap.specs.Changes.{with-place}
-use Rattle.netmap.specs.Net.{Net, Sound, places, link-at}
+use Rattle.netmap.specs.Net.{Fit, Net, Sound, places, link-at}
 use Rattle.netmap.specs.Opening.{first-places, all-empty}
 use Rattle.netmap.specs.Tables.{table-net}
-use Rattle.netmap.proofs.Soundness.{Fit, sound-with, sound-empty}
+use Rattle.netmap.proofs.Soundness.{sound-with, sound-empty}
 
 abbrev net-of : ℕ → List (Option Link) → Net
 net-of n ls = record { nodes = n; links = ls }

@@ -12,12 +12,12 @@ use Rattle.std.specs.declared.option.Option.the-variants.{None}
 use Rattle.netmap.specs.declared.link.Link.{Link}
 use Rattle.netmap.specs.Changes.{with-place}
 use Rattle.netmap.specs.Layout.{two-bytes, ends, figures, encode, image-size}
-use Rattle.netmap.specs.Net.{Net, Sound, places, link-at}
+use Rattle.netmap.specs.Net.{Fit, Net, Sound, places, link-at}
 use Rattle.netmap.specs.Reading.{decode, ends-at, figures-at}
 use Rattle.netmap.specs.Spans.{Written, At-place, Outside, Place-written}
 use Rattle.netmap.proofs.Decoding.{decode-places, decode-laid-out}
 use Rattle.netmap.proofs.Layouts.{Lays-out, lays-out-encode, image-lays-out}
-use Rattle.netmap.proofs.Soundness.{Fit, sound-with}
+use Rattle.netmap.proofs.Soundness.{sound-with}
 
 pub written-none : (old : List ℕ) (at : ℕ) (s : List ℕ) → Written old old at s 0
 written-none old at s = record { long = refl; inside = λ k h. absurd (omega arith); below = λ k h. refl; past = λ k h. refl }

@@ -1,4 +1,5 @@
 -- Questions that a call asks in turn: the first answered no denies it, and if none is, it is granted.
+use mathlib.Core.Path.{_≡_}
 use mathlib.Core.Bool.{Bool, true, false}
 use mathlib.Core.List.{List, [], _∷_}
 use Rattle.std.specs.declared.option.Option.{Option}
@@ -24,6 +25,11 @@ first-no (q ∷ qs) = elim (q .answer) [ true ↦ first-no qs | false ↦ Some (
 abbrev pub reply : {A : Type 0} → Option Denial → A → Result A Denial
 reply None a = Ok a
 reply (Some d) a = Err d
+
+-- a check that says whether a call is denied, and what holds where it is not
+abbrev pub Checks : Option Denial → Type 0 → Result (Unit {0}) Denial → Type 0
+Checks d P (Ok u) = (d ≡ None) × P
+Checks d P (Err x) = d ≡ Some x
 
 -- a denial leaves all as it was
 abbrev pub unless : {A : Type 0} → Option Denial → A → A → A

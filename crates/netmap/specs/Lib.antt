@@ -10,3 +10,4 @@ pub mod Soundness
 pub mod Spans
 pub mod Storing
 pub mod Tables
+pub mod Texts

@@ -29,9 +29,13 @@ pub record Sound-link (n : ℕ) (l : Link) : Type 0 where
   pub delay : l .delay .0 ≤ 100000
   pub figure : l .figure ≤ 1000000
 
+-- what a place may hold among n nodes: nothing, or a sound link
+abbrev pub Fit : ℕ → Option Link → Type 0
+Fit n o = (l : Link) → o ≡ Some l → Sound-link n l
+
 -- a network within the limits
 pub record Sound (net : Net) : Type 0 where
   pub nodes-low : 1 ≤ net .nodes
   pub nodes-high : net .nodes ≤ 64
   pub few : places net ≤ 256
-  pub each : (p : ℕ) (l : Link) → link-at net p ≡ Some l → Sound-link (net .nodes) l
+  pub each : (p : ℕ) → Fit (net .nodes) (link-at net p)

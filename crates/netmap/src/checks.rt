@@ -4,7 +4,6 @@ ghost use Rattle.netmap.specs.Asking.{first-no, reply};
 ghost use Rattle.netmap.specs.Changes.{place-questions, link-questions, put-questions};
 ghost use Rattle.netmap.specs.Opening.{size-denial};
 use crate::denial::Denial;
-use crate::denial::Layer;
 use crate::denial::Question;
 use crate::link::Link;
 use crate::link::Microseconds;
@@ -21,18 +20,10 @@ pub(crate) fn check_sizes(nodes: usize, places: usize) -> Result<(), Denial>
     ensures { λ r. ⌜ r ≡ reply (size-denial nodes places) tt ⌝ }
 {
     if nodes < 1 || nodes > MAX_NODES {
-        return Err(Denial {
-            question: Question::NodeCount,
-            layer: Layer::Map,
-            place: 0,
-        });
+        return Err(Denial::of_map(Question::NodeCount, 0));
     }
     if places > MAX_PLACES {
-        return Err(Denial {
-            question: Question::PlaceCount,
-            layer: Layer::Map,
-            place: 0,
-        });
+        return Err(Denial::of_map(Question::PlaceCount, 0));
     }
     Ok(())
 }
@@ -41,11 +32,7 @@ pub(crate) fn check_place(places: usize, place: usize) -> Result<(), Denial>
     ensures { λ r. ⌜ r ≡ reply (first-no (place-questions places place)) tt ⌝ }
 {
     if place >= places {
-        return Err(Denial {
-            question: Question::PlaceExists,
-            layer: Layer::Map,
-            place,
-        });
+        return Err(Denial::of_map(Question::PlaceExists, place));
     }
     Ok(())
 }
@@ -54,39 +41,19 @@ pub(crate) fn check_link(nodes: usize, link: Link, place: usize) -> Result<(), D
     ensures { λ r. ⌜ r ≡ reply (first-no (link-questions nodes link place)) tt ⌝ }
 {
     if link.tail as usize >= nodes || link.head as usize >= nodes {
-        return Err(Denial {
-            question: Question::EndsExist,
-            layer: Layer::Map,
-            place,
-        });
+        return Err(Denial::of_map(Question::EndsExist, place));
     }
     if link.tail == link.head {
-        return Err(Denial {
-            question: Question::EndsDiffer,
-            layer: Layer::Map,
-            place,
-        });
+        return Err(Denial::of_map(Question::EndsDiffer, place));
     }
     if link.weight == 0 {
-        return Err(Denial {
-            question: Question::WeightPositive,
-            layer: Layer::Map,
-            place,
-        });
+        return Err(Denial::of_map(Question::WeightPositive, place));
     }
     if link.delay.0 > MAX_DELAY.0 {
-        return Err(Denial {
-            question: Question::DelayLimit,
-            layer: Layer::Map,
-            place,
-        });
+        return Err(Denial::of_map(Question::DelayLimit, place));
     }
     if link.figure > MAX_FIGURE {
-        return Err(Denial {
-            question: Question::FigureLimit,
-            layer: Layer::Map,
-            place,
-        });
+        return Err(Denial::of_map(Question::FigureLimit, place));
     }
     Ok(())
 }

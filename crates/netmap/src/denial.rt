@@ -1,7 +1,7 @@
 // Denials: the question that was answered no, and what it was asked of.
 ghost use mathlib.Core.Path.{_≡_};
 ghost use Rattle.std.specs.declared.option.Option.the-variants.{Some};
-ghost use Rattle.netmap.specs.Denials.{number-of, layer-text, refusal};
+ghost use Rattle.netmap.specs.Denials.{number-of, layer-text, of-map, of-file, refusal};
 use std::fmt;
 
 // The questions that calls ask; `number` gives each its number.
@@ -77,6 +77,30 @@ pub struct Denial {
     pub question: Question,
     pub layer: Layer,
     pub place: usize,
+}
+
+impl Denial {
+    // Asked of a place of the map; of the map's sizes at place 0.
+    pub fn of_map(question: Question, place: usize) -> Denial
+        ensures { λ r. ⌜ r ≡ of-map question place ⌝ }
+    {
+        Denial {
+            question,
+            layer: Layer::Map,
+            place,
+        }
+    }
+
+    // Asked of so many bytes that were handed over.
+    pub fn of_file(question: Question, count: usize) -> Denial
+        ensures { λ r. ⌜ r ≡ of-file question count ⌝ }
+    {
+        Denial {
+            question,
+            layer: Layer::File,
+            place: count,
+        }
+    }
 }
 
 impl Question {

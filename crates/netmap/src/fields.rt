@@ -10,7 +10,6 @@ ghost use Rattle.netmap.specs.Reading.{two-at, four-at, link-in, marked-empty,
 use crate::checks::check_link;
 use crate::checks::check_sizes;
 use crate::denial::Denial;
-use crate::denial::Layer;
 use crate::denial::Question;
 use crate::link::Link;
 use crate::link::Microseconds;
@@ -104,11 +103,7 @@ fn check_fields(nodes: usize, link: Link, place: usize) -> Result<(), Denial>
         return check_link(nodes, link, place);
     }
     if link.weight != 0 || link.delay.0 != 0 || link.figure != 0 {
-        return Err(Denial {
-            question: Question::EmptyBlank,
-            layer: Layer::Map,
-            place,
-        });
+        return Err(Denial::of_map(Question::EmptyBlank, place));
     }
     Ok(())
 }
@@ -119,21 +114,13 @@ fn check_header(bytes: &[u8]) -> Result<Sizes, Denial>
         (λ d. first-no (header-questions (now (bytes .entry))) ≡ Some d) ⌝ }
 {
     let [n0, n1, p0, p1, ..] = bytes else {
-        return Err(Denial {
-            question: Question::HeaderBytes,
-            layer: Layer::File,
-            place: bytes.len(),
-        });
+        return Err(Denial::of_file(Question::HeaderBytes, bytes.len()));
     };
     let nodes = u16::from_be_bytes([*n0, *n1]) as usize;
     let places = u16::from_be_bytes([*p0, *p1]) as usize;
     check_sizes(nodes, places)?;
     if bytes.len() != 4 + 12 * places {
-        return Err(Denial {
-            question: Question::ImageLength,
-            layer: Layer::File,
-            place: bytes.len(),
-        });
+        return Err(Denial::of_file(Question::ImageLength, bytes.len()));
     }
     Ok(Sizes { nodes, places })
 }

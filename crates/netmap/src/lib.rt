@@ -4,6 +4,7 @@ pub mod denial;
 mod fields;
 pub mod image;
 pub mod link;
+pub mod listing;
 pub mod map;
 pub mod storage;
 pub mod table;

@@ -37,3 +37,6 @@ pub trait Tariff: Ranking {
     fn join(self, next: Self) -> Self
         ensures { λ r. ⌜ r ≡ joining .join self next ⌝ };
 }
+
+#[cfg(test)]
+mod tests;

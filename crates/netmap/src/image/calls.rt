@@ -5,11 +5,11 @@ ghost use lib.ListN.{length};
 ghost use denote.Ref.{name};
 ghost use Rattle.std.specs.Results.{Cases};
 ghost use Rattle.std.specs.declared.option.Option.the-variants.{None, Some};
-ghost use Rattle.netmap.specs.Asking.{reply, unless};
-ghost use Rattle.netmap.specs.Changes.{with-place, put-denial, put-reply, after-put, remove-denial, remove-reply, after-remove};
+ghost use Rattle.netmap.specs.Asking.{reply, unless, Checks};
+ghost use Rattle.netmap.specs.Changes.{with-place, read-denial, put-denial, put-reply, after-put, remove-denial, remove-reply, after-remove};
 ghost use Rattle.netmap.specs.Images.{image-net, image-sound, bytes-of};
 ghost use Rattle.netmap.specs.Layout.{encode, image-size, Images};
-ghost use Rattle.netmap.specs.Net.{Sound-link, link-at};
+ghost use Rattle.netmap.specs.Net.{Fit, link-at};
 ghost use Rattle.netmap.specs.Opening.{no-places};
 ghost use Rattle.netmap.specs.Reading.{image-denial, decode};
 ghost use Rattle.netmap.specs.Spans.{Written, Place-written};
@@ -17,7 +17,6 @@ use super::Image;
 use crate::checks::check_place;
 use crate::checks::check_put;
 use crate::denial::Denial;
-use crate::denial::Layer;
 use crate::denial::Question;
 use crate::fields::Sizes;
 use crate::fields::end_bytes;
@@ -51,9 +50,18 @@ impl<'a> Image<'a> {
         ensures named { λ _. ⌜ name (now (self .exit) .bytes) ≡ name (now (self .entry) .bytes) ⌝ }
     {
         let sizes = self.examined()?;
-        self.nodes = sizes.nodes;
-        self.places = sizes.places;
+        self.admit(sizes.nodes, sizes.places);
         Ok(())
+    }
+
+    fn admit(&mut self, nodes: usize, places: usize)
+        requires { ⌜ Images (bytes-of (now self)) (decode nodes places (bytes-of (now self))) ⌝ }
+        ensures means { λ _. ⌜ image-net (now (self .exit)) ≡ decode nodes places (bytes-of (now (self .entry))) ⌝ }
+        ensures same { λ _. ⌜ bytes-of (now (self .exit)) ≡ bytes-of (now (self .entry)) ⌝ }
+        ensures named { λ _. ⌜ name (now (self .exit) .bytes) ≡ name (now (self .entry) .bytes) ⌝ }
+    {
+        self.nodes = nodes;
+        self.places = places;
     }
 
     fn examined(&self) -> Result<Sizes, Denial>
@@ -62,6 +70,28 @@ impl<'a> Image<'a> {
             (λ d. image-denial (bytes-of (now (self .entry))) ≡ Some d) ⌝ }
     {
         examine(self.bytes)
+    }
+
+    fn may_read(&self, place: usize) -> Result<(), Denial>
+        ensures { λ r. ⌜ Checks (read-denial (image-net (now (self .entry))) place) (place < now (self .entry) .places) r ⌝ }
+    {
+        check_place(self.places, place)
+    }
+
+    fn may_put(&self, place: usize, link: Link) -> Result<(), Denial>
+        ensures { λ r. ⌜ Checks (put-denial (image-net (now (self .entry))) place link) ((place < now (self .entry) .places) × Fit (now (self .entry) .nodes) (Some link)) r ⌝ }
+    {
+        check_put(self.nodes, self.places, place, link)
+    }
+
+    fn may_remove(&self, place: usize) -> Result<(), Denial>
+        ensures { λ r. ⌜ Checks (remove-denial (image-net (now (self .entry))) place) (place < now (self .entry) .places) r ⌝ }
+    {
+        self.may_read(place)?;
+        match self.held(place) {
+            Some(_) => Ok(()),
+            None => Err(Denial::of_map(Question::PlaceFilled, place)),
+        }
     }
 
     fn held(&self, place: usize) -> Option<Link>
@@ -102,7 +132,7 @@ impl<'a> Image<'a> {
     // Shuts the image while the place is written, so that what is half written means nothing.
     fn change(&mut self, place: usize, held: Option<Link>)
         requires within { ⌜ place < now self .places ⌝ }
-        requires sound { ⌜ ((l : Link) → held ≡ Some l → Sound-link (now self .nodes) l) ⌝ }
+        requires fit { ⌜ Fit (now self .nodes) held ⌝ }
         ensures means { λ _. ⌜ image-net (now (self .exit)) ≡ with-place (image-net (now (self .entry))) place held ⌝ }
         ensures holds { λ _. ⌜ bytes-of (now (self .exit)) ≡ encode (with-place (image-net (now (self .entry))) place held) ⌝ }
         ensures named { λ _. ⌜ name (now (self .exit) .bytes) ≡ name (now (self .entry) .bytes) ⌝ }
@@ -128,7 +158,7 @@ pub impl<'a> Map for Image<'a> as ImageMap {
     }
 
     fn read(&self, place: usize) -> Result<Option<Link>, Denial> {
-        check_place(self.places, place)?;
+        self.may_read(place)?;
         Ok(self.held(place))
     }
 
@@ -138,7 +168,7 @@ pub impl<'a> Map for Image<'a> as ImageMap {
         ensures holds { λ _. ⌜ bytes-of (now (self .exit)) ≡ unless (put-denial (image-net (now (self .entry))) place link) (encode (with-place (image-net (now (self .entry))) place (Some link))) (bytes-of (now (self .entry))) ⌝ }
         ensures named { λ _. ⌜ name (now (self .exit) .bytes) ≡ name (now (self .entry) .bytes) ⌝ }
     {
-        check_put(self.nodes, self.places, place, link)?;
+        self.may_put(place, link)?;
         self.change(place, Some(link));
         Ok(())
     }
@@ -149,14 +179,7 @@ pub impl<'a> Map for Image<'a> as ImageMap {
         ensures holds { λ _. ⌜ bytes-of (now (self .exit)) ≡ unless (remove-denial (image-net (now (self .entry))) place) (encode (with-place (image-net (now (self .entry))) place None)) (bytes-of (now (self .entry))) ⌝ }
         ensures named { λ _. ⌜ name (now (self .exit) .bytes) ≡ name (now (self .entry) .bytes) ⌝ }
     {
-        check_place(self.places, place)?;
-        if self.held(place).is_none() {
-            return Err(Denial {
-                question: Question::PlaceFilled,
-                layer: Layer::Map,
-                place,
-            });
-        }
+        self.may_remove(place)?;
         self.change(place, None);
         Ok(())
     }

@@ -1,10 +1,12 @@
 // Opening a record table, and what makes it a map.
 ghost use mathlib.Core.Path.{_≡_};
+ghost use Prim.Native.Nat.{_<_};
 ghost use lib.ListN.{length, replicate, set};
 ghost use denote.Ref.{name};
 ghost use Rattle.std.specs.declared.option.Option.the-variants.{None, Some};
-ghost use Rattle.netmap.specs.Asking.{reply, unless};
-ghost use Rattle.netmap.specs.Changes.{put-denial, put-reply, after-put, remove-denial, remove-reply, after-remove};
+ghost use Rattle.netmap.specs.Asking.{reply, unless, Checks};
+ghost use Rattle.netmap.specs.Changes.{with-place, read-denial, put-denial, put-reply, after-put, remove-denial, remove-reply, after-remove};
+ghost use Rattle.netmap.specs.Net.{Fit, link-at};
 ghost use Rattle.netmap.specs.Opening.{no-places, all-empty, size-denial};
 ghost use Rattle.netmap.specs.Tables.{table-net, table-sound, records-of};
 use super::RecordTable;
@@ -12,7 +14,6 @@ use crate::checks::check_place;
 use crate::checks::check_put;
 use crate::checks::check_sizes;
 use crate::denial::Denial;
-use crate::denial::Layer;
 use crate::denial::Question;
 use crate::link::Link;
 use crate::map::Map;
@@ -39,13 +40,61 @@ impl<'a> RecordTable<'a> {
         ensures named { λ _. ⌜ name (now (self .exit) .records) ≡ name (now (self .entry) .records) ⌝ }
     {
         check_sizes(nodes, self.records.len())?;
+        self.clear(nodes);
+        Ok(())
+    }
+
+    fn clear(&mut self, nodes: usize)
+        requires { ⌜ size-denial nodes (length (records-of (now self))) ≡ None ⌝ }
+        ensures means { λ _. ⌜ table-net (now (self .exit)) ≡ all-empty nodes (length (records-of (now (self .entry)))) ⌝ }
+        ensures holds { λ _. ⌜ records-of (now (self .exit)) ≡ replicate (length (records-of (now (self .entry)))) None ⌝ }
+        ensures named { λ _. ⌜ name (now (self .exit) .records) ≡ name (now (self .entry) .records) ⌝ }
+    {
         self.nodes = nodes;
         self.places = 0;
         for i in 0..self.records.len() {
             self.records[i] = None;
         }
         self.places = self.records.len();
-        Ok(())
+    }
+
+    fn may_read(&self, place: usize) -> Result<(), Denial>
+        ensures { λ r. ⌜ Checks (read-denial (table-net (now (self .entry))) place) (place < now (self .entry) .places) r ⌝ }
+    {
+        check_place(self.places, place)
+    }
+
+    fn may_put(&self, place: usize, link: Link) -> Result<(), Denial>
+        ensures { λ r. ⌜ Checks (put-denial (table-net (now (self .entry))) place link) ((place < now (self .entry) .places) × Fit (now (self .entry) .nodes) (Some link)) r ⌝ }
+    {
+        check_put(self.nodes, self.places, place, link)
+    }
+
+    fn may_remove(&self, place: usize) -> Result<(), Denial>
+        ensures { λ r. ⌜ Checks (remove-denial (table-net (now (self .entry))) place) (place < now (self .entry) .places) r ⌝ }
+    {
+        self.may_read(place)?;
+        match self.held(place) {
+            Some(_) => Ok(()),
+            None => Err(Denial::of_map(Question::PlaceFilled, place)),
+        }
+    }
+
+    fn held(&self, place: usize) -> Option<Link>
+        requires { ⌜ place < now self .places ⌝ }
+        ensures { λ r. ⌜ r ≡ link-at (table-net (now (self .entry))) place ⌝ }
+    {
+        self.records[place]
+    }
+
+    fn change(&mut self, place: usize, held: Option<Link>)
+        requires within { ⌜ place < now self .places ⌝ }
+        requires fit { ⌜ Fit (now self .nodes) held ⌝ }
+        ensures means { λ _. ⌜ table-net (now (self .exit)) ≡ with-place (table-net (now (self .entry))) place held ⌝ }
+        ensures holds { λ _. ⌜ records-of (now (self .exit)) ≡ set (records-of (now (self .entry))) place held ⌝ }
+        ensures named { λ _. ⌜ name (now (self .exit) .records) ≡ name (now (self .entry) .records) ⌝ }
+    {
+        self.records[place] = held;
     }
 }
 
@@ -63,8 +112,8 @@ pub impl<'a> Map for RecordTable<'a> as TableMap {
     }
 
     fn read(&self, place: usize) -> Result<Option<Link>, Denial> {
-        check_place(self.places, place)?;
-        Ok(self.records[place])
+        self.may_read(place)?;
+        Ok(self.held(place))
     }
 
     fn put(&mut self, place: usize, link: Link) -> Result<(), Denial>
@@ -73,8 +122,8 @@ pub impl<'a> Map for RecordTable<'a> as TableMap {
         ensures holds { λ _. ⌜ records-of (now (self .exit)) ≡ unless (put-denial (table-net (now (self .entry))) place link) (set (records-of (now (self .entry))) place (Some link)) (records-of (now (self .entry))) ⌝ }
         ensures named { λ _. ⌜ name (now (self .exit) .records) ≡ name (now (self .entry) .records) ⌝ }
     {
-        check_put(self.nodes, self.places, place, link)?;
-        self.records[place] = Some(link);
+        self.may_put(place, link)?;
+        self.change(place, Some(link));
         Ok(())
     }
 
@@ -84,16 +133,8 @@ pub impl<'a> Map for RecordTable<'a> as TableMap {
         ensures holds { λ _. ⌜ records-of (now (self .exit)) ≡ unless (remove-denial (table-net (now (self .entry))) place) (set (records-of (now (self .entry))) place None) (records-of (now (self .entry))) ⌝ }
         ensures named { λ _. ⌜ name (now (self .exit) .records) ≡ name (now (self .entry) .records) ⌝ }
     {
-        check_place(self.places, place)?;
-        let held = self.records[place];
-        if held.is_none() {
-            return Err(Denial {
-                question: Question::PlaceFilled,
-                layer: Layer::Map,
-                place,
-            });
-        }
-        self.records[place] = None;
+        self.may_remove(place)?;
+        self.change(place, None);
         Ok(())
     }
 }

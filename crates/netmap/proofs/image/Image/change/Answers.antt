@@ -19,7 +19,7 @@ ghost-self-2 c =
     let t = c .args .self .now in
     let n = c .write-place .last .self .nodes in
     let bs = c .write-place .last .self .bytes .now in
-    let w = image-changed t bs (c .args .place) (c .args .held) (c .pre .within) (c .pre .sound) (c .write-place .ensures .wrote) in
+    let w = image-changed t bs (c .args .place) (c .args .held) (c .pre .within) (c .pre .fit) (c .write-place .ensures .wrote) in
     let same = sym (c .write-place .ensures .nodes) in
     let sound : Sound (decode n (t .places) bs) = subst (λ x. Sound (decode x (t .places) bs)) same (w .sound) in
     let whole : encode (decode n (t .places) bs) ≡ bs = subst (λ x. encode (decode x (t .places) bs) ≡ bs) same (w .whole) in
@@ -29,7 +29,7 @@ pub returns : need.returns
 returns c =
     let t = c .args .self .now in
     let bs = c .write-place .last .self .bytes .now in
-    let w = image-changed t bs (c .args .place) (c .args .held) (c .pre .within) (c .pre .sound) (c .write-place .ensures .wrote) in
+    let w = image-changed t bs (c .args .place) (c .args .held) (c .pre .within) (c .pre .fit) (c .write-place .ensures .wrote) in
     record {
       means = ap (λ x. decode x (t .places) bs) (c .write-place .ensures .nodes) ∙ w .means;
       holds = sym (w .whole) ∙ ap encode (w .means);

@@ -6,4 +6,4 @@ use Rattle.netmap.proofs.ImageNets.{shut-sound}
 use Rattle.netmap.proofs.image.Image.over.Needs as need
 
 pub ghost-result : need.ghost-result
-ghost-result c = (search needs, (∣ shut-sound 1 0 (c .args .bytes .now) refl (lit≤ tt) (lit≤ tt) ∣₁, ((λ h. absurd (omega arith)), tt)))
+ghost-result c = (search needs, (∣ shut-sound _ _ (c .args .bytes .now) refl (lit≤ tt) (lit≤ tt) ∣₁, ((λ h. absurd (omega arith)), tt)))
