@@ -1,0 +1,31 @@
+-- Paths and segments stay among the nodes of the network.
+use mathlib.Core.Path.{_≡_, sym, subst}
+use mathlib.Core.List.{List, [], _∷_}
+use mathlib.Core.Logic.{inl, inr}
+use Prim.Native.Nat.{ℕ, _-_, _<_}
+use Rattle.std.specs.declared.option.Option.the-variants.{Some}
+use Rattle.netmap.specs.declared.link.Link.{Link}
+use Rattle.netmap.specs.Net.{Net, Sound, link-at}
+use Rattle.segments.specs.declared.figures.Hop.{Hop}
+use Rattle.segments.specs.Algebra.{Algebra}
+use Rattle.segments.specs.Paths.{IsPath}
+use Rattle.segments.specs.Segments.{Segment}
+
+pub path-node : (net : Net) → Sound net → (u v : ℕ) (ls : List Link) → u < net .nodes → IsPath net u ls v → v < net .nodes
+path-node net sound u v [] h p = subst (λ n. n < net .nodes) p h
+path-node net sound u v (l ∷ ls) h p = path-node net sound (l .head) v ls (sound .each (p .0 .0) l (p .0 .1) .head) (p .2)
+
+pub segment-node : {V : Type 0} (net : Net) (alg : Algebra V) → Sound net → (u c : ℕ) (h : Hop V) → u < net .nodes → Segment net alg u c h → h .to < net .nodes
+segment-node net alg sound u c h node (inl s) =
+    subst (λ n. n < net .nodes) (sym (s .to)) (path-node net sound u c (s .spread .delay-met .0) node (s .spread .delay-met .1 .path))
+segment-node net alg sound u c h node (inr s) =
+    subst (λ n. n < net .nodes) (sym (s .to)) (sound .each (c - 256) (s .link) (s .filled) .head)
+
+-- where a path to another node begins
+pub tail-node : (net : Net) → Sound net → (u v : ℕ) (ls : List Link) → (u ≡ v → ⊥) → IsPath net u ls v → u < net .nodes
+tail-node net sound u v [] other p = absurd (other p)
+tail-node net sound u v (l ∷ ls) other p = subst (λ n. n < net .nodes) (p .1) (sound .each (p .0 .0) l (p .0 .1) .tail)
+
+-- where a link ends, if n is the number of nodes
+pub head-node : (net : Net) → Sound net → (n : ℕ) → n ≡ net .nodes → (p : ℕ) (l : Link) → link-at net p ≡ Some l → l .head < n
+head-node net sound n same p l at = subst (λ m. l .head < m) (sym same) (sound .each p l at .head)

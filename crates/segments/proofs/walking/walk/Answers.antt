@@ -1,0 +1,42 @@
+use mathlib.Core.Path.{_≡_, sym, ap, _∙_, subst}
+use Prim.Native.Nat.{_*_, _≤_}
+use lib.ListN.{length}
+use Rattle.std.proofs.shelf.Results.{err-from-errBy}
+use Rattle.std.specs.declared.option.Option.the-variants.{Some}
+use Rattle.std.specs.declared.result.Result.the-variants.{Err}
+use Rattle.netmap.specs.Asking.{reply}
+use Rattle.netmap.proofs.Asking.{granted, denied}
+use Rattle.segments.specs.Algebra.{algebra}
+use Rattle.segments.specs.Distances.{ExactAt}
+use Rattle.segments.specs.Spreads.{FiguredAt}
+use Rattle.segments.specs.Walks.{walk-denial}
+use Rattle.segments.proofs.WalkAdmitted.{admitted, walk-denied}
+use Rattle.segments.proofs.walking.walk.Needs as need
+
+pub follow-requires : need.follow-requires
+follow-requires g c κs =
+    let net = g .M·Map .meaning (c .args .map .now) in
+    let alg = algebra (g .V·Ranking .good) (g .V·Tariff .joining) in
+    let n = c .nodes-n .result in
+    let same = c .nodes-n .ensures in
+    let a = admitted n (c .args .source) (c .args .grain .0) (length (c .args .dist .now)) (length (c .args .spread .now)) (length (c .args .list .now)) (granted (walk-denial n (c .args .source) (c .args .grain .0) (length (c .args .dist .now)) (length (c .args .spread .now)) (length (c .args .list .now))) tt tt (c .in-Continue-check-walk .ensures tt)) in
+    record {
+      nodes = same;
+      sized = subst (λ m. n * n ≤ m) (sym (c .find-distances .kept .dist)) (a .sized);
+      space = subst (λ m. n * n ≤ m) (sym (c .find-figures .kept .spread ∙ c .find-distances .kept .spread)) (a .space);
+      exact = subst (λ m. ExactAt net m (c .find-distances .last .dist)) (sym same) (c .find-distances .ensures .exact);
+      figured = subst (λ m. FiguredAt net alg m (c .find-figures .last .spread)) (sym same) (c .find-figures .ensures);
+      from = a .from;
+      grain = a .fine;
+      short = a .short;
+    }
+
+pub returns-in-Break-check-walk : need.returns-in-Break-check-walk
+returns-in-Break-check-walk g c =
+    let net = g .M·Map .meaning (c .args .map .now) in
+    let alg = algebra (g .V·Ranking .good) (g .V·Tariff .joining) in
+    let x = c .in-Break-check-walk .field-0 .0 in
+    let d = walk-denial (net .nodes) (c .args .source) (c .args .grain .0) (length (c .args .dist .now)) (length (c .args .spread .now)) (length (c .args .list .now)) in
+    let some : d ≡ Some x = denied d x tt (subst (λ n. Err x ≡ reply (walk-denial n (c .args .source) (c .args .grain .0) (length (c .args .dist .now)) (length (c .args .spread .now)) (length (c .args .list .now))) tt) (c .nodes-n .ensures) (c .in-Break-check-walk .ensures tt)) in
+    let out = err-from-errBy (c .from-residual .result) (c .from-residual .ensures .1) in
+    walk-denied net alg (c .args .source) (c .args .grain .0) (c .args .list .now) (c .args .dist .now) (c .args .spread .now) d x (c .from-residual .result) some (out .1 ∙ ap Err (out .2))

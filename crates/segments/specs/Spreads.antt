@@ -1,0 +1,56 @@
+-- The figures of node segments, as the second working slice holds them, and the order in which it is filled.
+use mathlib.Core.Path.{_≡_}
+use mathlib.Core.Bool.{cond}
+use mathlib.Core.List.{List}
+use Prim.Native.Nat.{ℕ, _+_, _*_, _≤_, _<_, min, max}
+use lib.ListN.{getD}
+use Rattle.std.specs.declared.option.Option.{Option}
+use Rattle.std.specs.declared.option.Option.the-variants.{Some, None}
+use Rattle.netmap.specs.declared.link.Link.{Link}
+use Rattle.netmap.specs.Net.{Net, link-at}
+use Rattle.segments.specs.declared.figures.Spread.{Spread}
+use Rattle.segments.specs.Algebra.{Algebra}
+use Rattle.segments.specs.Distances.{table-of}
+use Rattle.segments.specs.Paths.{IsPath, Tight, Ecmp}
+
+-- the link at a place if it begins a best path, else nothing
+abbrev pub TightAt : Net → ℕ → ℕ → ℕ → Option Link → Type 0
+TightAt net u v p (Some l) = (link-at net p ≡ Some l) × Tight net u v l
+TightAt net u v p None = (l : Link) → link-at net p ≡ Some l → Tight net u v l → ⊥
+
+abbrev pub lesser-of : Option ℕ → ℕ → ℕ
+lesser-of None b = b
+lesser-of (Some a) b = min a b
+
+-- a node with a distance to v, by that distance and then by its number
+pub record Keyed (n : ℕ) (xs : List ℕ) (v bar key : ℕ) : Type 0 where
+  pub node : ℕ
+  pub below : node < n
+  pub far : ℕ
+  pub at : table-of n xs node v ≡ Some far
+  pub is : far * n + node ≡ key
+  pub from : bar ≤ key
+
+module _ {V : Type 0} where
+  abbrev pub slot : Algebra V → List (Spread V) → ℕ → Spread V
+  slot alg xs i = getD xs i (record { delay = record { 0 = 0 }; value = alg .neutral })
+
+  -- the larger delay and the worse value
+  abbrev pub worse-of : Algebra V → Option (Spread V) → Spread V → Spread V
+  worse-of alg None b = b
+  worse-of alg (Some a) b = record { delay = record { 0 = max (a .delay .0) (b .delay .0) }; value = cond (alg .as-good (a .value) (b .value)) (b .value) (a .value) }
+
+  -- the slot of u and v among n * n has the figures of all best paths
+  abbrev pub HasFigures : Net → Algebra V → ℕ → List (Spread V) → ℕ → ℕ → Type 0
+  HasFigures net alg n xs u v = Ecmp net alg u v (slot alg xs (u * n + v) .delay .0) (slot alg xs (u * n + v) .value)
+
+  -- the slots of each pair of n nodes that a path joins
+  abbrev pub FiguredAt : Net → Algebra V → ℕ → List (Spread V) → Type 0
+  FiguredAt net alg n xs = (u v : ℕ) (ls : List Link) → u < n → v < n → IsPath net u ls v → HasFigures net alg n xs u v
+
+  abbrev pub Figured : Net → Algebra V → List (Spread V) → Type 0
+  Figured net alg xs = FiguredAt net alg (net .nodes) xs
+
+  -- all columns but one are as they were
+  abbrev pub Spared : Algebra V → ℕ → ℕ → List (Spread V) → List (Spread V) → Type 0
+  Spared alg n v before after = (a b : ℕ) → b < n → (b ≡ v → ⊥) → slot alg after (a * n + b) ≡ slot alg before (a * n + b)

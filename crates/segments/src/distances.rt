@@ -1,0 +1,134 @@
+// Distances of all pairs of nodes, by rounds of relaxation.
+ghost use mathlib.Core.Path.{_≡_};
+ghost use mathlib.Core.Bool.{true, false};
+ghost use Prim.Native.Nat.{ℕ, _*_, _<_, _≤_};
+ghost use lib.ListN.{length, getD};
+ghost use Rattle.segments.specs.Distances.{AllKnown, Same, Exact, delays};
+ghost use Rattle.segments.specs.Relaxations.{Round, Swept, Rounds, first-slot as firstSlot};
+use crate::figures::Spread;
+use crate::figures::note;
+use crate::links::held;
+use netmap::Link;
+use netmap::Map;
+use netmap::Microseconds;
+use tariff::Tariff;
+
+// Before the first round: 0 from each node to itself.
+fn start(n: usize, dist: &mut [u32])
+    requires nodes { ⌜ n ≤ 64 ⌝ }
+    requires sized { ⌜ n * n ≤ length (now dist) ⌝ }
+    ensures { λ _. ⌜ ((i : ℕ) → i < n * n → getD (now (dist .exit)) i 0 ≡ firstSlot n i) ⌝ }
+{
+    for i in 0..n * n {
+        dist[i] = if i / n == i % n { 0 } else { u32::MAX };
+    }
+}
+
+// The distances so far into the other slice, where a round betters them.
+fn carry<V: Tariff>(cells: usize, dist: &[u32], spread: &mut [Spread<V>])
+    requires sized { ⌜ cells ≤ length (now dist) ⌝ }
+    requires space { ⌜ cells ≤ length (now spread) ⌝ }
+    ensures { λ _. ⌜ Same cells (now (dist .entry)) (delays (now (spread .exit))) ⌝ }
+{
+    for i in 0..cells {
+        spread[i] = Spread {
+            delay: Microseconds(dist[i]),
+            value: V::neutral(),
+        };
+    }
+}
+
+// The distance that a slot of the second working slice holds.
+fn delay_at<V: Tariff>(spread: &[Spread<V>], slot: usize) -> u32
+    requires { ⌜ slot < length (now spread) ⌝ }
+    ensures { λ r. ⌜ r ≡ getD (delays (now (spread .entry))) slot 0 ⌝ }
+{
+    spread[slot].delay.0
+}
+
+// Tries a link with the distance from its head, to each node.
+fn sweep<V: Tariff>(n: usize, dist: &[u32], spread: &mut [Spread<V>], link: Link)
+    requires nodes { ⌜ n ≤ 64 ⌝ }
+    requires tail { ⌜ link .tail < n ⌝ }
+    requires head { ⌜ link .head < n ⌝ }
+    requires sized { ⌜ n * n ≤ length (now dist) ⌝ }
+    requires space { ⌜ n * n ≤ length (now spread) ⌝ }
+    requires known { ⌜ AllKnown n (now dist) ⌝ }
+    ensures { λ _. ⌜ Swept n link (now (dist .entry)) (delays (now (spread .entry))) (delays (now (spread .exit))) ⌝ }
+{
+    let row = link.tail as usize * n;
+    for v in 0..n {
+        let rest = dist[link.head as usize * n + v];
+        if rest != u32::MAX {
+            let sum = link.weight as u32 + rest;
+            let best = delay_at(spread, row + v);
+            if sum < best {
+                note(
+                    spread,
+                    row + v,
+                    Spread {
+                        delay: Microseconds(sum),
+                        value: V::neutral(),
+                    },
+                );
+            }
+        }
+    }
+}
+
+// One round: from the distances so far, those over one link more into the other slice.
+fn round<M: Map, V: Tariff>(map: &M, n: usize, dist: &[u32], spread: &mut [Spread<V>])
+    requires nodes { ⌜ n ≡ M·Map .meaning (now map) .nodes ⌝ }
+    requires sized { ⌜ n * n ≤ length (now dist) ⌝ }
+    requires space { ⌜ n * n ≤ length (now spread) ⌝ }
+    requires known { ⌜ AllKnown n (now dist) ⌝ }
+    ensures { λ _. ⌜ Round (M·Map .meaning (now (map .entry))) n (now (dist .entry)) (delays (now (spread .exit))) ⌝ }
+{
+    carry(n * n, dist, spread);
+    for p in 0..map.places() {
+        if let Some(link) = held(map, p) {
+            sweep(n, dist, spread, link);
+        }
+    }
+}
+
+// Takes the distances of a round over, and says whether any is new.
+fn improves<V: Tariff>(cells: usize, dist: &mut [u32], spread: &[Spread<V>]) -> bool
+    requires sized { ⌜ cells ≤ length (now dist) ⌝ }
+    requires space { ⌜ cells ≤ length (now spread) ⌝ }
+    ensures taken { λ _. ⌜ Same cells (now (dist .exit)) (delays (now (spread .entry))) ⌝ }
+    ensures some { λ r. ⌜ (r ≡ true → Same cells (now (dist .entry)) (delays (now (spread .entry))) → ⊥) ⌝ }
+    ensures none { λ r. ⌜ (r ≡ false → Same cells (now (dist .entry)) (delays (now (spread .entry)))) ⌝ }
+{
+    let mut any = false;
+    for i in 0..cells {
+        let found = spread[i].delay.0;
+        if dist[i] != found {
+            dist[i] = found;
+            any = true;
+        }
+    }
+    any
+}
+
+// The distances of all pairs of nodes, and how many rounds found them.
+pub(crate) fn find_distances<M: Map, V: Tariff>(
+    map: &M,
+    dist: &mut [u32],
+    spread: &mut [Spread<V>],
+) -> usize
+    requires sized { ⌜ M·Map .meaning (now map) .nodes * M·Map .meaning (now map) .nodes ≤ length (now dist) ⌝ }
+    requires space { ⌜ M·Map .meaning (now map) .nodes * M·Map .meaning (now map) .nodes ≤ length (now spread) ⌝ }
+    ensures exact { λ _. ⌜ Exact (M·Map .meaning (now (map .entry))) (now (dist .exit)) ⌝ }
+    ensures rounds { λ r. ⌜ Rounds (M·Map .meaning (now (map .entry))) r ⌝ }
+{
+    let n = map.nodes();
+    start(n, dist);
+    for k in 0..n {
+        round(map, n, dist, spread);
+        if !improves(n * n, dist, spread) {
+            return k + 1;
+        }
+    }
+    unreachable()
+}

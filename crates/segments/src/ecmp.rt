@@ -1,0 +1,185 @@
+// The figures of node segments, over all best paths (ECMP).
+ghost use mathlib.Core.Path.{_≡_};
+ghost use mathlib.Core.List.{List};
+ghost use Prim.Native.Nat.{ℕ, _*_, _<_, _≤_};
+ghost use lib.ListN.{length};
+ghost use Rattle.netmap.specs.declared.link.Link.{Link as NetLink};
+ghost use Rattle.segments.specs.Algebra.{algebra};
+ghost use Rattle.segments.specs.Distances.{LeastOf, Exact, ExactAt};
+ghost use Rattle.segments.specs.Paths.{IsPath, Tight, Ecmp};
+ghost use Rattle.segments.specs.Spreads.{TightAt, HasFigures, Figured, Keyed, Spared, worse-of as worseOf, lesser-of as lesserOf};
+use crate::figures::Spread;
+use crate::figures::note;
+use crate::links::held;
+use netmap::Link;
+use netmap::Map;
+use netmap::Microseconds;
+use tariff::Tariff;
+
+// The link at a place, if it begins a best path from u to v.
+fn tight<M: Map>(map: &M, n: usize, dist: &[u32], u: usize, v: usize, place: usize) -> Option<Link>
+    requires nodes { ⌜ n ≡ M·Map .meaning (now map) .nodes ⌝ }
+    requires sized { ⌜ n * n ≤ length (now dist) ⌝ }
+    requires from { ⌜ u < n ⌝ }
+    requires to { ⌜ v < n ⌝ }
+    requires exact { ⌜ ExactAt (M·Map .meaning (now map)) n (now dist) ⌝ }
+    ensures { λ r. ⌜ TightAt (M·Map .meaning (now (map .entry))) u v place r ⌝ }
+{
+    let Some(link) = held(map, place) else {
+        return None;
+    };
+    if link.tail as usize != u {
+        return None;
+    }
+    let rest = dist[link.head as usize * n + v];
+    if rest == u32::MAX {
+        return None;
+    }
+    if link.weight as u32 + rest == dist[u * n + v] {
+        Some(link)
+    } else {
+        None
+    }
+}
+
+// The larger delay and the worse value.
+fn worse<V: Tariff>(one: Option<Spread<V>>, other: Spread<V>) -> Spread<V>
+    ensures { λ r. ⌜ r ≡ worseOf (algebra (V·Ranking .good) (V·Tariff .joining)) one other ⌝ }
+{
+    match one {
+        None => other,
+        Some(one) => Spread {
+            delay: Microseconds(one.delay.0.max(other.delay.0)),
+            value: if one.value.as_good(other.value) {
+                other.value
+            } else {
+                one.value
+            },
+        },
+    }
+}
+
+// The figures from u to another node v, from those at the heads of the links that begin a best path.
+fn gather<M: Map, V: Tariff>(
+    map: &M,
+    n: usize,
+    dist: &[u32],
+    spread: &[Spread<V>],
+    u: usize,
+    v: usize,
+) -> Spread<V>
+    requires nodes { ⌜ n ≡ M·Map .meaning (now map) .nodes ⌝ }
+    requires sized { ⌜ n * n ≤ length (now dist) ⌝ }
+    requires space { ⌜ n * n ≤ length (now spread) ⌝ }
+    requires from { ⌜ u < n ⌝ }
+    requires to { ⌜ v < n ⌝ }
+    requires exact { ⌜ ExactAt (M·Map .meaning (now map)) n (now dist) ⌝ }
+    requires other { ⌜ (u ≡ v → ⊥) ⌝ }
+    requires reached { ⌜ ((ls : List NetLink) × IsPath (M·Map .meaning (now map)) u ls v) ⌝ }
+    requires heads { ⌜ ((l : NetLink) → Tight (M·Map .meaning (now map)) u v l → HasFigures (M·Map .meaning (now map)) (algebra (V·Ranking .good) (V·Tariff .joining)) n (now spread) (l .head) v) ⌝ }
+    ensures { λ r. ⌜ Ecmp (M·Map .meaning (now (map .entry))) (algebra (V·Ranking .good) (V·Tariff .joining)) u v (r .delay .0) (r .value) ⌝ }
+{
+    let mut found: Option<Spread<V>> = None;
+    for p in 0..map.places() {
+        if let Some(link) = tight(map, n, dist, u, v, p) {
+            let rest = spread[link.head as usize * n + v];
+            let delay = Microseconds(link.delay.0 + rest.delay.0);
+            let value = V::of_link(link).join(rest.value);
+            found = Some(worse(found, Spread { delay, value }));
+        }
+    }
+    match found {
+        Some(spread) => spread,
+        None => unreachable(),
+    }
+}
+
+// The figures from u to v.
+fn figures_between<M: Map, V: Tariff>(
+    map: &M,
+    n: usize,
+    dist: &[u32],
+    spread: &[Spread<V>],
+    u: usize,
+    v: usize,
+) -> Spread<V>
+    requires nodes { ⌜ n ≡ M·Map .meaning (now map) .nodes ⌝ }
+    requires sized { ⌜ n * n ≤ length (now dist) ⌝ }
+    requires space { ⌜ n * n ≤ length (now spread) ⌝ }
+    requires from { ⌜ u < n ⌝ }
+    requires to { ⌜ v < n ⌝ }
+    requires exact { ⌜ ExactAt (M·Map .meaning (now map)) n (now dist) ⌝ }
+    requires reached { ⌜ ((ls : List NetLink) × IsPath (M·Map .meaning (now map)) u ls v) ⌝ }
+    requires heads { ⌜ ((l : NetLink) → Tight (M·Map .meaning (now map)) u v l → HasFigures (M·Map .meaning (now map)) (algebra (V·Ranking .good) (V·Tariff .joining)) n (now spread) (l .head) v) ⌝ }
+    ensures { λ r. ⌜ Ecmp (M·Map .meaning (now (map .entry))) (algebra (V·Ranking .good) (V·Tariff .joining)) u v (r .delay .0) (r .value) ⌝ }
+{
+    if u == v {
+        Spread {
+            delay: Microseconds(0),
+            value: V::neutral(),
+        }
+    } else {
+        gather(map, n, dist, spread, u, v)
+    }
+}
+
+fn lesser(one: Option<usize>, other: usize) -> usize
+    ensures { λ r. ⌜ r ≡ lesserOf one other ⌝ }
+{
+    match one {
+        Some(one) => one.min(other),
+        None => other,
+    }
+}
+
+// Nodes in the order of their distances to v, and of their numbers where those are equal: the least key from bar on.
+fn next(n: usize, dist: &[u32], v: usize, bar: usize) -> Option<usize>
+    requires nodes { ⌜ n ≤ 64 ⌝ }
+    requires sized { ⌜ n * n ≤ length (now dist) ⌝ }
+    requires to { ⌜ v < n ⌝ }
+    ensures { λ r. ⌜ LeastOf (Keyed n (now (dist .entry)) v bar) r ⌝ }
+{
+    let mut least: Option<usize> = None;
+    for u in 0..n {
+        let far = dist[u * n + v];
+        if far != u32::MAX {
+            let key = far as usize * n + u;
+            if key >= bar {
+                least = Some(lesser(least, key));
+            }
+        }
+    }
+    least
+}
+
+// The figures from each node to v, nearest first, so that each link that begins a best path leads to figures that are there.
+fn column<M: Map, V: Tariff>(map: &M, n: usize, dist: &[u32], spread: &mut [Spread<V>], v: usize)
+    requires nodes { ⌜ n ≡ M·Map .meaning (now map) .nodes ⌝ }
+    requires sized { ⌜ n * n ≤ length (now dist) ⌝ }
+    requires space { ⌜ n * n ≤ length (now spread) ⌝ }
+    requires to { ⌜ v < n ⌝ }
+    requires exact { ⌜ ExactAt (M·Map .meaning (now map)) n (now dist) ⌝ }
+    ensures done { λ _. ⌜ ((u : ℕ) (ls : List NetLink) → u < n → IsPath (M·Map .meaning (now (map .entry))) u ls v → HasFigures (M·Map .meaning (now (map .entry))) (algebra (V·Ranking .good) (V·Tariff .joining)) n (now (spread .exit)) u v) ⌝ }
+    ensures spared { λ _. ⌜ Spared (algebra (V·Ranking .good) (V·Tariff .joining)) n v (now (spread .entry)) (now (spread .exit)) ⌝ }
+{
+    let mut bar = 0;
+    while let Some(key) = next(n, dist, v, bar) {
+        let u = key % n;
+        let figures = figures_between(map, n, dist, spread, u, v);
+        note(spread, u * n + v, figures);
+        bar = key + 1;
+    }
+}
+
+// The figures of every pair of nodes that a path joins.
+pub(crate) fn find_figures<M: Map, V: Tariff>(map: &M, dist: &[u32], spread: &mut [Spread<V>])
+    requires sized { ⌜ M·Map .meaning (now map) .nodes * M·Map .meaning (now map) .nodes ≤ length (now dist) ⌝ }
+    requires space { ⌜ M·Map .meaning (now map) .nodes * M·Map .meaning (now map) .nodes ≤ length (now spread) ⌝ }
+    requires exact { ⌜ Exact (M·Map .meaning (now map)) (now dist) ⌝ }
+    ensures { λ _. ⌜ Figured (M·Map .meaning (now (map .entry))) (algebra (V·Ranking .good) (V·Tariff .joining)) (now (spread .exit)) ⌝ }
+{
+    let n = map.nodes();
+    for v in 0..n {
+        column(map, n, dist, spread, v);
+    }
+}
