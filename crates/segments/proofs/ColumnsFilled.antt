@@ -15,7 +15,7 @@ use Rattle.netmap.specs.declared.link.Link.{Link}
 use Rattle.netmap.specs.Net.{Net, Sound}
 use Rattle.segments.specs.declared.figures.Spread.{Spread}
 use Rattle.segments.specs.Algebra.{Algebra}
-use Rattle.segments.specs.Distances.{LeastOf, cell, table-of, ExactAt, Known}
+use Rattle.segments.specs.Distances.{LeastOf, cell, table-of, Measured, Known}
 use Rattle.segments.specs.Paths.{IsPath, Tight, Ecmp}
 use Rattle.segments.specs.Spreads.{Keyed, slot, HasFigures, Figured, Spared}
 use Rattle.segments.proofs.DistanceSlots.{cell-is, cell-none}
@@ -32,10 +32,10 @@ module _ {V : Type 0} (net : Net) (alg : Algebra V) (n : ℕ) (dist : List ℕ) 
   pub filled-first : (xs : List (Spread V)) → FilledTo 0 xs
   filled-first xs u w nu e h = absurd (omega arith)
 
-  module _ (sound : Sound net) (same : n ≡ net .nodes) (exact : ExactAt net n dist) (nv : v < n) (bar : ℕ) (xs : List (Spread V)) (filled : FilledTo bar xs) where
+  module _ (sound : Sound net) (m : Measured net n dist) (nv : v < n) (bar : ℕ) (xs : List (Spread V)) (filled : FilledTo bar xs) where
     pub filled-all : LeastOf (Keyed n dist v bar) None → (u : ℕ) (ls : List Link) → u < n → IsPath net u ls v → HasFigures net alg n xs u v
     filled-all none u ls nu p =
-        let f = path-far net sound n same dist exact u v ls nu nv p in
+        let f = path-far net sound n dist m u v ls nu nv p in
         ⊎-elim (λ (h : f .0 * n + u < bar). filled u (f .0) nu (f .1) h)
         (λ (h : bar ≤ f .0 * n + u). absurd (none (f .0 * n + u) (record { node = u; below = nu; far = f .0; at = f .1; is = refl; from = h })))
         (cases-lt (f .0 * n + u) bar)
@@ -55,8 +55,8 @@ module _ {V : Type 0} (net : Net) (alg : Algebra V) (n : ℕ) (dist : List ℕ) 
 
       pub key-small : key < 264237184
       key-small =
-          let k = far-small (getD dist (key % n * n + v) 0) (least .0 .far) (exact-known net sound n same dist exact (key % n * n + v) (digits-lt key-below nv)) key-at in
-          bound (least .0 .far) n (key % n) k (subst (λ m. m ≤ 64) (sym same) (sound .nodes-high)) key-below key-is
+          let k = far-small (getD dist (key % n * n + v) 0) (least .0 .far) (exact-known net sound n dist m (key % n * n + v) (digits-lt key-below nv)) key-at in
+          bound (least .0 .far) n (key % n) k (subst (λ k. k ≤ 64) (sym (m .nodes)) (sound .nodes-high)) key-below key-is
         where
           far-small : (x w : ℕ) → Known x → cell x ≡ Some w → w ≤ 4128705
           far-small x w (inl h) e = omega (arith, cell-is x w e, h)
@@ -66,7 +66,7 @@ module _ {V : Type 0} (net : Net) (alg : Algebra V) (n : ℕ) (dist : List ℕ) 
           bound f n r a b h e = omega (arith, mul-le f n 4128705 64 a b)
 
       pub key-path : (ls : List Link) × IsPath net (key % n) ls v
-      key-path = let b = far-path net sound n same dist exact (key % n) v (least .0 .far) key-below nv key-at in (b .0, b .1 .path)
+      key-path = let b = far-path net sound n dist m (key % n) v (least .0 .far) key-below nv key-at in (b .0, b .1 .path)
 
       -- what is nearer is filled
       nearer : (u w : ℕ) → u < n → table-of n dist u v ≡ Some w → w * n + u < key → HasFigures net alg n xs u v
@@ -77,9 +77,9 @@ module _ {V : Type 0} (net : Net) (alg : Algebra V) (n : ℕ) (dist : List ℕ) 
       pub key-heads : (l : Link) → Tight net (key % n) v l → HasFigures net alg n xs (l .head) v
       key-heads l t =
           let u = key % n in
-          let nh = head-node net sound n same (t .best .path .0 .0) l (t .best .path .0 .1) in
-          let f = path-far net sound n same dist exact (l .head) v (t .rest) nh nv (t .best .path .2) in
-          let d = path-far net sound n same dist exact u v (l ∷ t .rest) key-below nv (t .best .path) in
+          let nh = head-node net sound n (m .nodes) (t .best .path .0 .0) l (t .best .path .0 .1) in
+          let f = path-far net sound n dist m (l .head) v (t .rest) nh nv (t .best .path .2) in
+          let d = path-far net sound n dist m u v (l ∷ t .rest) key-below nv (t .best .path) in
           let q = tight-nearer net sound u v l (d .0) (f .0) t (d .2) (f .2) in
           let w : d .0 ≡ least .0 .far = some-same (table-of n dist u v) (d .0) (least .0 .far) (d .1) key-at in
           nearer (l .head) (f .0) nh (f .1) (below-row (f .0) (least .0 .far) n (l .head) u (omega (arith, q .1, w)) nh key-is)
@@ -121,5 +121,5 @@ module _ {V : Type 0} (net : Net) (alg : Algebra V) (n : ℕ) where
       below-last : (b v : ℕ) → b < v + 1 → (b ≡ v → ⊥) → b < v
       below-last b v h ne = omega arith
 
-  pub columns-all : n ≡ net .nodes → (m : ℕ) (xs : List (Spread V)) → n ≤ m → ColumnsTo m xs → Figured net alg xs
-  columns-all same m xs past f u v ls nu nv p = subst (λ k. HasFigures net alg k xs u v) same (f u v ls (omega (arith, same)) (omega (arith, same)) p)
+  pub columns-all : (m : ℕ) (xs : List (Spread V)) → n ≤ m → ColumnsTo m xs → Figured net alg n xs
+  columns-all m xs past f u v ls nu nv p = f u v ls nu (omega arith) p

@@ -12,25 +12,25 @@ use Rattle.netmap.specs.Net.{Net, Sound, link-at}
 use Rattle.segments.specs.declared.figures.Hop.{Hop}
 use Rattle.segments.specs.declared.figures.Spread.{Spread}
 use Rattle.segments.specs.Algebra.{Algebra}
-use Rattle.segments.specs.Distances.{table-of, ExactAt}
+use Rattle.segments.specs.Distances.{table-of}
 use Rattle.segments.specs.Entries.{Leaves, Entry, NodeHop, LinkHop}
 use Rattle.segments.specs.Paths.{Ecmp}
 use Rattle.segments.specs.Segments.{NodeSegment, Segment}
-use Rattle.segments.specs.Spreads.{slot, FiguredAt}
+use Rattle.segments.specs.Spreads.{slot, Routed}
 use Rattle.segments.proofs.DistanceSlots.{cell-none, cell-full}
 use Rattle.segments.proofs.ExactDistances.{path-far, far-path}
 use Rattle.segments.proofs.NodesReached.{path-node}
 use Rattle.segments.proofs.OptionValues.{some-same, none-some}
 
-module _ {V : Type 0} (net : Net) (alg : Algebra V) (sound : Sound net) (n : ℕ) (same : n ≡ net .nodes) (dist : List ℕ) (exact : ExactAt net n dist) (spread : List (Spread V)) (figured : FiguredAt net alg n spread) (u c : ℕ) (nu : u < n) where
+module _ {V : Type 0} (net : Net) (alg : Algebra V) (sound : Sound net) (n : ℕ) (dist : List ℕ) (spread : List (Spread V)) (routed : Routed net alg n dist spread) (u c : ℕ) (nu : u < n) where
   node-below : (h : Hop V) → NodeSegment net alg u c h → c < n
-  node-below h s = subst (λ m. c < m) (sym same) (path-node net sound u c (s .spread .delay-met .0) (subst (λ m. u < m) same nu) (s .spread .delay-met .1 .path))
+  node-below h s = subst (λ m. c < m) (sym (routed .measured .nodes)) (path-node net sound u c (s .spread .delay-met .0) (subst (λ m. u < m) (routed .measured .nodes) nu) (s .spread .delay-met .1 .path))
 
   -- a code of a node
   pub entry-node : c < 64 → c < n → (c ≡ u → ⊥) → (o : Option (Hop V)) → NodeHop alg dist spread (u * n + c) c o → Entry net alg u c o
   entry-node range nc ne (Some l) s =
-      let b = far-path net sound n same dist exact u c (getD dist (u * n + c) 0) nu nc (cell-full (getD dist (u * n + c) 0) (s .0)) in
-      let f = figured u c (b .0) nu nc (b .1 .path) in
+      let b = far-path net sound n dist (routed .measured) u c (getD dist (u * n + c) 0) nu nc (cell-full (getD dist (u * n + c) 0) (s .0)) in
+      let f = routed .figured u c (b .0) nu nc (b .1 .path) in
       inl (record {
         range = range;
         other = λ e. ne (sym e);
@@ -40,7 +40,7 @@ module _ {V : Type 0} (net : Net) (alg : Algebra V) (sound : Sound net) (n : ℕ
   entry-node range nc ne None s = λ h t. no h t
     where
       no : (h : Hop V) → Segment net alg u c h → ⊥
-      no h (inl t) = let f = path-far net sound n same dist exact u c (t .spread .delay-met .0) nu nc (t .spread .delay-met .1 .path) in none-some (table-of n dist u c) (f .0) (cell-none (getD dist (u * n + c) 0) s) (f .1)
+      no h (inl t) = let f = path-far net sound n dist (routed .measured) u c (t .spread .delay-met .0) nu nc (t .spread .delay-met .1 .path) in none-some (table-of n dist u c) (f .0) (cell-none (getD dist (u * n + c) 0) s) (f .1)
       no h (inr t) = omega (arith, t .low, range)
 
   -- a code of a place

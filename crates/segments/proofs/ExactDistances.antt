@@ -9,23 +9,23 @@ use Rattle.std.specs.declared.option.Option.{Option}
 use Rattle.std.specs.declared.option.Option.the-variants.{Some, None}
 use Rattle.netmap.specs.declared.link.Link.{Link}
 use Rattle.netmap.specs.Net.{Net, Sound}
-use Rattle.segments.specs.Distances.{LeastOf, Far, cell, table-of, ExactAt, Known, AllKnown}
+use Rattle.segments.specs.Distances.{LeastOf, Far, cell, table-of, Measured, Known, AllKnown}
 use Rattle.segments.specs.Paths.{IsPath, total-weight, IsBest}
 use Rattle.segments.proofs.DistanceSlots.{cell-cases}
 use Rattle.segments.proofs.SimplePaths.{best-small}
 use Rattle.segments.proofs.TableSlots.{by-place}
 
-module _ (net : Net) (sound : Sound net) (n : ℕ) (same : n ≡ net .nodes) (xs : List ℕ) (exact : ExactAt net n xs) where
+module _ (net : Net) (sound : Sound net) (n : ℕ) (xs : List ℕ) (m : Measured net n xs) where
   far-best : (u v w : ℕ) → LeastOf (Far net u v) (Some w) → (ls : List Link) × IsBest net u ls v × (total-weight ls ≡ w)
   far-best u v w l = (l .0 .links, record { path = l .0 .path; least = λ ms p. omega (arith, l .0 .weight, l .1 (total-weight ms) (record { links = ms; path = p; weight = refl })) }, l .0 .weight)
 
   -- distances are small
   pub exact-known : AllKnown n xs
-  exact-known = by-place n (λ u v i. Known (getD xs i 0)) (λ u v nu nv. known-at u v nu (getD xs (u * n + v) 0) (exact u v nu nv))
+  exact-known = by-place n (λ u v i. Known (getD xs i 0)) (λ u v nu nv. known-at u v nu (getD xs (u * n + v) 0) (m .exact u v nu nv))
     where
       known-at : (u v : ℕ) → u < n → (x : ℕ) → LeastOf (Far net u v) (cell x) → Known x
       known-at u v nu x l = ⊎-elim
-          (λ (a : (cell x ≡ Some x) × (x ≡ 4294967295 → ⊥)). let b = far-best u v x (subst (LeastOf (Far net u v)) (a .0) l) in inl (omega (arith, best-small net sound u v (b .0) (subst (λ m. u < m) same nu) (b .1) .0, b .2)))
+          (λ (a : (cell x ≡ Some x) × (x ≡ 4294967295 → ⊥)). let b = far-best u v x (subst (LeastOf (Far net u v)) (a .0) l) in inl (omega (arith, best-small net sound u v (b .0) (subst (λ k. u < k) (m .nodes) nu) (b .1) .0, b .2)))
           (λ (a : (cell x ≡ None) × (x ≡ 4294967295)). inr (a .1))
           (cell-cases x)
 
@@ -34,9 +34,9 @@ module _ (net : Net) (sound : Sound net) (n : ℕ) (same : n ≡ net .nodes) (xs
   path-far u v ls nu nv p = pick (table-of n xs u v) refl
     where
       pick : (o : Option ℕ) → table-of n xs u v ≡ o → (w : ℕ) × (table-of n xs u v ≡ Some w) × LeastOf (Far net u v) (Some w)
-      pick (Some w) e = (w, e, subst (LeastOf (Far net u v)) e (exact u v nu nv))
-      pick None e = absurd (subst (LeastOf (Far net u v)) e (exact u v nu nv) (total-weight ls) (record { links = ls; path = p; weight = refl }))
+      pick (Some w) e = (w, e, subst (LeastOf (Far net u v)) e (m .exact u v nu nv))
+      pick None e = absurd (subst (LeastOf (Far net u v)) e (m .exact u v nu nv) (total-weight ls) (record { links = ls; path = p; weight = refl }))
 
   -- and the other way about
   pub far-path : (u v w : ℕ) → u < n → v < n → table-of n xs u v ≡ Some w → (ls : List Link) × IsBest net u ls v × (total-weight ls ≡ w)
-  far-path u v w nu nv e = far-best u v w (subst (LeastOf (Far net u v)) e (exact u v nu nv))
+  far-path u v w nu nv e = far-best u v w (subst (LeastOf (Far net u v)) e (m .exact u v nu nv))

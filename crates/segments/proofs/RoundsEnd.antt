@@ -33,10 +33,8 @@ first-other n i x z ne = z ∙ ap (λ b. cond b 0 4294967295) (sym (ne-eqb (i / 
 pub found-same : (net : Net) (k n : ℕ) (xs ys : List ℕ) → Same (n * n) xs ys → Found net k n xs → Found net k n ys
 found-same net k n xs ys same f u v nu nv = subst (λ w. LeastOf (Near net k u v) (cell w)) (same (u * n + v) (digits-lt nu nv)) (f u v nu nv)
 
-pub exact-same : (net : Net) (n : ℕ) → n ≡ net .nodes → (xs ys : List ℕ) → Same (n * n) xs ys → Exact net xs → Exact net ys
-exact-same net n nodes xs ys same f u v nu nv =
-    let m = net .nodes in
-    subst (λ w. LeastOf (Far net u v) (cell w)) (subst (λ m. Same (m * m) xs ys) nodes same (u * m + v) (digits-lt nu nv)) (f u v nu nv)
+pub exact-same : (net : Net) (n : ℕ) (xs ys : List ℕ) → Same (n * n) xs ys → Exact net n xs → Exact net n ys
+exact-same net n xs ys same f u v nu nv = subst (λ w. LeastOf (Far net u v) (cell w)) (same (u * n + v) (digits-lt nu nv)) (f u v nu nv)
 
 module _ (net : Net) (sound : Sound net) where
   -- before the first round
@@ -83,9 +81,10 @@ module _ (net : Net) (sound : Sound net) where
         round-found u v nu nv = subst (λ j. LeastOf (Near net j u v) (table-of n new u v)) (omega arith) (round-more net sound k (table-of n old) found-net u v (table-of n new u v) (of-net u nu) (of-net v nv) (round u v nu nv))
 
         -- a round that changes nothing has the distances
-        pub round-exact : Same (n * n) old new → Exact net old
-        round-exact still = subst (λ m. (u v : ℕ) → u < net .nodes → v < net .nodes → LeastOf (Far net u v) (table-of m old u v)) same (settled net sound k (table-of n old) found-net
-            (λ u v nu nv. subst (λ w. LeastOf (Tried net (table-of n old) u v) (cell w)) (sym (still (u * n + v) (digits-lt (node u nu) (node v nv)))) (round u v (node u nu) (node v nv))))
+        pub round-exact : Same (n * n) old new → Exact net n old
+        round-exact still u v nu nv = settled net sound k (table-of n old) found-net
+            (λ a b na nb. subst (λ w. LeastOf (Tried net (table-of n old) a b) (cell w)) (sym (still (a * n + b) (digits-lt (node a na) (node b nb)))) (round a b (node a na) (node b nb)))
+            u v (of-net u nu) (of-net v nv)
 
         -- where k links are enough, a round changes nothing
         pub enough-still : (j : ℕ) → Enough net j → j ≤ k → Same (n * n) old new
@@ -95,10 +94,10 @@ module _ (net : Net) (sound : Sound net) where
             (total-weight (b .0), record { links = b .0; path = b .1 .path; short = omega (arith, b .2); weight = refl }, omega (arith, b .1 .least (r .links) (r .path), r .weight)))))
 
       -- distances that paths of at most k links have
-      pub found-enough : Exact net old → Enough net k
+      pub found-enough : Exact net n old → Enough net k
       found-enough exact u v ls nu p =
           let nv = path-node net sound u v ls nu p in
-          pick (getD old (u * n + v) 0) u v ls nu nv p (found-net u v nu nv) (subst (λ m. LeastOf (Far net u v) (table-of m old u v)) (sym same) (exact u v nu nv))
+          pick (getD old (u * n + v) 0) u v ls nu nv p (found-net u v nu nv) (exact u v (node u nu) (node v nv))
         where
           pick : (x u v : ℕ) (ls : List Link) → u < net .nodes → v < net .nodes → IsPath net u ls v → LeastOf (Near net k u v) (cell x) → LeastOf (Far net u v) (cell x) → (ms : List Link) × IsBest net u ms v × (length ms ≤ k)
           pick x u v ls nu nv p near far = ⊎-elim

@@ -5,12 +5,13 @@ use Prim.Native.Nat.{ℕ, _*_, _≤_, _<_}
 use lib.Dec.{leb}
 use Rattle.std.proofs.shelf.Tests.{ltb-true, leb-true, and-parts}
 use Rattle.std.specs.declared.option.Option.{Option}
-use Rattle.std.specs.declared.option.Option.the-variants.{Some, None}
+use Rattle.std.specs.declared.option.Option.the-variants.{Some}
 use Rattle.std.specs.declared.result.Result.{Result}
-use Rattle.std.specs.declared.result.Result.the-variants.{Err}
+use Rattle.std.specs.declared.result.Result.the-variants.{Ok, Err}
 use Rattle.netmap.specs.declared.denial.Denial.{Denial}
 use Rattle.netmap.specs.Net.{Net}
-use Rattle.netmap.proofs.Asking.{all-yes}
+use Rattle.netmap.specs.Asking.{reply}
+use Rattle.netmap.proofs.Asking.{granted, all-yes}
 use Rattle.segments.specs.declared.figures.Spread.{Spread}
 use Rattle.segments.specs.declared.figures.Walk.{Walk}
 use Rattle.segments.specs.Algebra.{Algebra}
@@ -25,9 +26,9 @@ pub record Admitted (n source grain dist spread count : ℕ) : Type 0 where
   pub space : n * n ≤ spread
   pub short : count ≤ 10
 
-pub admitted : (n source grain dist spread count : ℕ) → walk-denial n source grain dist spread count ≡ None → Admitted n source grain dist spread count
+pub admitted : (n source grain dist spread count : ℕ) → _≡_ {A = Result (Unit {0}) Denial} (Ok tt) (reply (walk-denial n source grain dist spread count) tt) → Admitted n source grain dist spread count
 admitted n source grain dist spread count e =
-    let y = all-yes (walk-questions n source grain dist spread count) e in
+    let y = all-yes (walk-questions n source grain dist spread count) (granted (walk-denial n source grain dist spread count) tt tt e) in
     let g = and-parts (leb 1 grain) (leb grain 10000) (y .1 .0) in
     let s = and-parts (leb (n * n) dist) (leb (n * n) spread) (y .1 .1 .0) in
     record {

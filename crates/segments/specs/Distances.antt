@@ -5,7 +5,7 @@ use mathlib.Core.List.{List, map}
 use mathlib.Core.Logic.{_⊎_}
 use Prim.Native.Nat.{ℕ, _+_, _*_, _≤_, _<_}
 use lib.Dec.{eqb}
-use lib.ListN.{getD}
+use lib.ListN.{length, getD}
 use Rattle.std.specs.declared.option.Option.{Option}
 use Rattle.std.specs.declared.option.Option.the-variants.{Some, None}
 use Rattle.netmap.specs.declared.link.Link.{Link}
@@ -33,11 +33,14 @@ abbrev pub table-of : ℕ → List ℕ → ℕ → ℕ → Option ℕ
 table-of n xs u v = cell (getD xs (u * n + v) 0)
 
 -- each pair of n nodes has its distance
-abbrev pub ExactAt : Net → ℕ → List ℕ → Type 0
-ExactAt net n xs = (u v : ℕ) → u < n → v < n → LeastOf (Far net u v) (table-of n xs u v)
+abbrev pub Exact : Net → ℕ → List ℕ → Type 0
+Exact net n xs = (u v : ℕ) → u < n → v < n → LeastOf (Far net u v) (table-of n xs u v)
 
-abbrev pub Exact : Net → List ℕ → Type 0
-Exact net xs = ExactAt net (net .nodes) xs
+-- the slice holds the distances of the network's n nodes
+pub record Measured (net : Net) (n : ℕ) (xs : List ℕ) : Type 0 where
+  pub nodes : n ≡ net .nodes
+  pub sized : n * n ≤ length xs
+  pub exact : Exact net n xs
 
 -- a distance to which a weight may still be added, or no path
 abbrev pub Known : ℕ → Type 0

@@ -43,6 +43,14 @@ module _ {V : Type 0} where
   LinkHop net alg place (Some h) = Along net alg place h
   LinkHop net alg place None = link-at net place ≡ None
 
+  -- no entry
+  pub record Stays (alg : Algebra V) (source : ℕ) (r : Walk V) : Type 0 where
+    pub end : r .end ≡ source
+    pub value : r .figures .value ≡ alg .neutral
+    pub grains : r .figures .grains .0 ≡ 0
+    pub delay : r .figures .delay .0 ≡ 0
+    pub labels : r .figures .labels .0 ≡ 0
+
   -- one entry more
   pub record Extended (alg : Algebra V) (grain : ℕ) (w : Walk V) (h : Hop V) (r : Walk V) : Type 0 where
     pub end : r .end ≡ h .to

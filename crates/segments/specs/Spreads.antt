@@ -3,14 +3,14 @@ use mathlib.Core.Path.{_≡_}
 use mathlib.Core.Bool.{cond}
 use mathlib.Core.List.{List}
 use Prim.Native.Nat.{ℕ, _+_, _*_, _≤_, _<_, min, max}
-use lib.ListN.{getD}
+use lib.ListN.{length, getD}
 use Rattle.std.specs.declared.option.Option.{Option}
 use Rattle.std.specs.declared.option.Option.the-variants.{Some, None}
 use Rattle.netmap.specs.declared.link.Link.{Link}
 use Rattle.netmap.specs.Net.{Net, link-at}
 use Rattle.segments.specs.declared.figures.Spread.{Spread}
 use Rattle.segments.specs.Algebra.{Algebra}
-use Rattle.segments.specs.Distances.{table-of}
+use Rattle.segments.specs.Distances.{table-of, Measured}
 use Rattle.segments.specs.Paths.{IsPath, Tight, Ecmp}
 
 -- the link at a place if it begins a best path, else nothing
@@ -45,12 +45,15 @@ module _ {V : Type 0} where
   HasFigures net alg n xs u v = Ecmp net alg u v (slot alg xs (u * n + v) .delay .0) (slot alg xs (u * n + v) .value)
 
   -- the slots of each pair of n nodes that a path joins
-  abbrev pub FiguredAt : Net → Algebra V → ℕ → List (Spread V) → Type 0
-  FiguredAt net alg n xs = (u v : ℕ) (ls : List Link) → u < n → v < n → IsPath net u ls v → HasFigures net alg n xs u v
-
-  abbrev pub Figured : Net → Algebra V → List (Spread V) → Type 0
-  Figured net alg xs = FiguredAt net alg (net .nodes) xs
+  abbrev pub Figured : Net → Algebra V → ℕ → List (Spread V) → Type 0
+  Figured net alg n xs = (u v : ℕ) (ls : List Link) → u < n → v < n → IsPath net u ls v → HasFigures net alg n xs u v
 
   -- all columns but one are as they were
   abbrev pub Spared : Algebra V → ℕ → ℕ → List (Spread V) → List (Spread V) → Type 0
   Spared alg n v before after = (a b : ℕ) → b < n → (b ≡ v → ⊥) → slot alg after (a * n + b) ≡ slot alg before (a * n + b)
+
+-- the working slices hold the distances and the figures of the network's n nodes
+pub record Routed {V : Type 0} (net : Net) (alg : Algebra V) (n : ℕ) (dist : List ℕ) (spread : List (Spread V)) : Type 0 where
+  pub measured : Measured net n dist
+  pub space : n * n ≤ length spread
+  pub figured : Figured net alg n spread

@@ -3,7 +3,7 @@ ghost use mathlib.Core.Path.{_≡_};
 ghost use mathlib.Core.Bool.{true, false};
 ghost use Prim.Native.Nat.{ℕ, _*_, _<_, _≤_};
 ghost use lib.ListN.{length, getD};
-ghost use Rattle.segments.specs.Distances.{AllKnown, Same, Exact, delays};
+ghost use Rattle.segments.specs.Distances.{AllKnown, Same, Measured, delays};
 ghost use Rattle.segments.specs.Relaxations.{Round, Swept, Rounds, first-slot as firstSlot};
 use crate::figures::Spread;
 use crate::figures::note;
@@ -114,15 +114,16 @@ fn improves<V: Tariff>(cells: usize, dist: &mut [u32], spread: &[Spread<V>]) -> 
 // The distances of all pairs of nodes, and how many rounds found them.
 pub(crate) fn find_distances<M: Map, V: Tariff>(
     map: &M,
+    n: usize,
     dist: &mut [u32],
     spread: &mut [Spread<V>],
 ) -> usize
-    requires sized { ⌜ M·Map .meaning (now map) .nodes * M·Map .meaning (now map) .nodes ≤ length (now dist) ⌝ }
-    requires space { ⌜ M·Map .meaning (now map) .nodes * M·Map .meaning (now map) .nodes ≤ length (now spread) ⌝ }
-    ensures exact { λ _. ⌜ Exact (M·Map .meaning (now (map .entry))) (now (dist .exit)) ⌝ }
+    requires nodes { ⌜ n ≡ M·Map .meaning (now map) .nodes ⌝ }
+    requires sized { ⌜ n * n ≤ length (now dist) ⌝ }
+    requires space { ⌜ n * n ≤ length (now spread) ⌝ }
+    ensures measured { λ _. ⌜ Measured (M·Map .meaning (now (map .entry))) n (now (dist .exit)) ⌝ }
     ensures rounds { λ r. ⌜ Rounds (M·Map .meaning (now (map .entry))) r ⌝ }
 {
-    let n = map.nodes();
     start(n, dist);
     for k in 0..n {
         round(map, n, dist, spread);

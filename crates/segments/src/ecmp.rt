@@ -5,7 +5,7 @@ ghost use Prim.Native.Nat.{ℕ, _*_, _<_, _≤_};
 ghost use lib.ListN.{length};
 ghost use Rattle.netmap.specs.declared.link.Link.{Link as NetLink};
 ghost use Rattle.segments.specs.Algebra.{algebra};
-ghost use Rattle.segments.specs.Distances.{LeastOf, Exact, ExactAt};
+ghost use Rattle.segments.specs.Distances.{LeastOf, Measured};
 ghost use Rattle.segments.specs.Paths.{IsPath, Tight, Ecmp};
 ghost use Rattle.segments.specs.Spreads.{TightAt, HasFigures, Figured, Keyed, Spared, worse-of as worseOf, lesser-of as lesserOf};
 use crate::figures::Spread;
@@ -18,11 +18,9 @@ use tariff::Tariff;
 
 // The link at a place, if it begins a best path from u to v.
 fn tight<M: Map>(map: &M, n: usize, dist: &[u32], u: usize, v: usize, place: usize) -> Option<Link>
-    requires nodes { ⌜ n ≡ M·Map .meaning (now map) .nodes ⌝ }
-    requires sized { ⌜ n * n ≤ length (now dist) ⌝ }
+    requires measured { ⌜ Measured (M·Map .meaning (now map)) n (now dist) ⌝ }
     requires from { ⌜ u < n ⌝ }
     requires to { ⌜ v < n ⌝ }
-    requires exact { ⌜ ExactAt (M·Map .meaning (now map)) n (now dist) ⌝ }
     ensures { λ r. ⌜ TightAt (M·Map .meaning (now (map .entry))) u v place r ⌝ }
 {
     let Some(link) = held(map, place) else {
@@ -68,12 +66,10 @@ fn gather<M: Map, V: Tariff>(
     u: usize,
     v: usize,
 ) -> Spread<V>
-    requires nodes { ⌜ n ≡ M·Map .meaning (now map) .nodes ⌝ }
-    requires sized { ⌜ n * n ≤ length (now dist) ⌝ }
+    requires measured { ⌜ Measured (M·Map .meaning (now map)) n (now dist) ⌝ }
     requires space { ⌜ n * n ≤ length (now spread) ⌝ }
     requires from { ⌜ u < n ⌝ }
     requires to { ⌜ v < n ⌝ }
-    requires exact { ⌜ ExactAt (M·Map .meaning (now map)) n (now dist) ⌝ }
     requires other { ⌜ (u ≡ v → ⊥) ⌝ }
     requires reached { ⌜ ((ls : List NetLink) × IsPath (M·Map .meaning (now map)) u ls v) ⌝ }
     requires heads { ⌜ ((l : NetLink) → Tight (M·Map .meaning (now map)) u v l → HasFigures (M·Map .meaning (now map)) (algebra (V·Ranking .good) (V·Tariff .joining)) n (now spread) (l .head) v) ⌝ }
@@ -103,12 +99,10 @@ fn figures_between<M: Map, V: Tariff>(
     u: usize,
     v: usize,
 ) -> Spread<V>
-    requires nodes { ⌜ n ≡ M·Map .meaning (now map) .nodes ⌝ }
-    requires sized { ⌜ n * n ≤ length (now dist) ⌝ }
+    requires measured { ⌜ Measured (M·Map .meaning (now map)) n (now dist) ⌝ }
     requires space { ⌜ n * n ≤ length (now spread) ⌝ }
     requires from { ⌜ u < n ⌝ }
     requires to { ⌜ v < n ⌝ }
-    requires exact { ⌜ ExactAt (M·Map .meaning (now map)) n (now dist) ⌝ }
     requires reached { ⌜ ((ls : List NetLink) × IsPath (M·Map .meaning (now map)) u ls v) ⌝ }
     requires heads { ⌜ ((l : NetLink) → Tight (M·Map .meaning (now map)) u v l → HasFigures (M·Map .meaning (now map)) (algebra (V·Ranking .good) (V·Tariff .joining)) n (now spread) (l .head) v) ⌝ }
     ensures { λ r. ⌜ Ecmp (M·Map .meaning (now (map .entry))) (algebra (V·Ranking .good) (V·Tariff .joining)) u v (r .delay .0) (r .value) ⌝ }
@@ -154,11 +148,9 @@ fn next(n: usize, dist: &[u32], v: usize, bar: usize) -> Option<usize>
 
 // The figures from each node to v, nearest first, so that each link that begins a best path leads to figures that are there.
 fn column<M: Map, V: Tariff>(map: &M, n: usize, dist: &[u32], spread: &mut [Spread<V>], v: usize)
-    requires nodes { ⌜ n ≡ M·Map .meaning (now map) .nodes ⌝ }
-    requires sized { ⌜ n * n ≤ length (now dist) ⌝ }
+    requires measured { ⌜ Measured (M·Map .meaning (now map)) n (now dist) ⌝ }
     requires space { ⌜ n * n ≤ length (now spread) ⌝ }
     requires to { ⌜ v < n ⌝ }
-    requires exact { ⌜ ExactAt (M·Map .meaning (now map)) n (now dist) ⌝ }
     ensures done { λ _. ⌜ ((u : ℕ) (ls : List NetLink) → u < n → IsPath (M·Map .meaning (now (map .entry))) u ls v → HasFigures (M·Map .meaning (now (map .entry))) (algebra (V·Ranking .good) (V·Tariff .joining)) n (now (spread .exit)) u v) ⌝ }
     ensures spared { λ _. ⌜ Spared (algebra (V·Ranking .good) (V·Tariff .joining)) n v (now (spread .entry)) (now (spread .exit)) ⌝ }
 {
@@ -172,13 +164,16 @@ fn column<M: Map, V: Tariff>(map: &M, n: usize, dist: &[u32], spread: &mut [Spre
 }
 
 // The figures of every pair of nodes that a path joins.
-pub(crate) fn find_figures<M: Map, V: Tariff>(map: &M, dist: &[u32], spread: &mut [Spread<V>])
-    requires sized { ⌜ M·Map .meaning (now map) .nodes * M·Map .meaning (now map) .nodes ≤ length (now dist) ⌝ }
-    requires space { ⌜ M·Map .meaning (now map) .nodes * M·Map .meaning (now map) .nodes ≤ length (now spread) ⌝ }
-    requires exact { ⌜ Exact (M·Map .meaning (now map)) (now dist) ⌝ }
-    ensures { λ _. ⌜ Figured (M·Map .meaning (now (map .entry))) (algebra (V·Ranking .good) (V·Tariff .joining)) (now (spread .exit)) ⌝ }
+pub(crate) fn find_figures<M: Map, V: Tariff>(
+    map: &M,
+    n: usize,
+    dist: &[u32],
+    spread: &mut [Spread<V>],
+)
+    requires measured { ⌜ Measured (M·Map .meaning (now map)) n (now dist) ⌝ }
+    requires space { ⌜ n * n ≤ length (now spread) ⌝ }
+    ensures { λ _. ⌜ Figured (M·Map .meaning (now (map .entry))) (algebra (V·Ranking .good) (V·Tariff .joining)) n (now (spread .exit)) ⌝ }
 {
-    let n = map.nodes();
     for v in 0..n {
         column(map, n, dist, spread, v);
     }

@@ -1,11 +1,10 @@
 // What the entry of a segment list does at a node.
 ghost use mathlib.Core.Path.{_≡_};
-ghost use Prim.Native.Nat.{_*_, _<_, _≤_};
+ghost use Prim.Native.Nat.{_<_};
 ghost use lib.ListN.{length};
 ghost use Rattle.segments.specs.Algebra.{algebra};
-ghost use Rattle.segments.specs.Distances.{ExactAt};
 ghost use Rattle.segments.specs.Entries.{Entry, Leaves, NodeHop, LinkHop};
-ghost use Rattle.segments.specs.Spreads.{FiguredAt};
+ghost use Rattle.segments.specs.Spreads.{Routed};
 use crate::figures::Hop;
 use crate::figures::Spread;
 use crate::links::held;
@@ -63,12 +62,8 @@ pub(crate) fn entry<M: Map, V: Tariff>(
     u: usize,
     code: u16,
 ) -> Option<Hop<V>>
-    requires nodes { ⌜ n ≡ M·Map .meaning (now map) .nodes ⌝ }
-    requires sized { ⌜ n * n ≤ length (now dist) ⌝ }
-    requires space { ⌜ n * n ≤ length (now spread) ⌝ }
+    requires routed { ⌜ Routed (M·Map .meaning (now map)) (algebra (V·Ranking .good) (V·Tariff .joining)) n (now dist) (now spread) ⌝ }
     requires from { ⌜ u < n ⌝ }
-    requires exact { ⌜ ExactAt (M·Map .meaning (now map)) n (now dist) ⌝ }
-    requires figured { ⌜ FiguredAt (M·Map .meaning (now map)) (algebra (V·Ranking .good) (V·Tariff .joining)) n (now spread) ⌝ }
     ensures { λ r. ⌜ Entry (M·Map .meaning (now (map .entry))) (algebra (V·Ranking .good) (V·Tariff .joining)) u code r ⌝ }
 {
     let index = code as usize;

@@ -5,6 +5,7 @@ mod entry;
 pub mod figures;
 mod links;
 pub mod order;
+mod routing;
 pub mod theorems;
 pub mod units;
 pub mod walking;

@@ -1,22 +1,20 @@
 // Walking a given segment list.
 ghost use mathlib.Core.Path.{_≡_};
-ghost use Prim.Native.Nat.{_*_, _<_, _≤_};
+ghost use Prim.Native.Nat.{_<_, _≤_};
 ghost use lib.ListN.{length};
 ghost use Rattle.netmap.specs.Asking.{reply};
 ghost use Rattle.netmap.specs.Denials.{told};
 ghost use Rattle.netmap.specs.declared.denial.Layer.the-variants.{Order as OfOrder};
 ghost use Rattle.segments.specs.Algebra.{algebra};
-ghost use Rattle.segments.specs.Distances.{ExactAt};
-ghost use Rattle.segments.specs.Entries.{Extended};
-ghost use Rattle.segments.specs.Spreads.{FiguredAt};
+ghost use Rattle.segments.specs.Entries.{Stays, Extended};
+ghost use Rattle.segments.specs.Spreads.{Routed};
 ghost use Rattle.segments.specs.Walks.{WalkCall, WalkReply, walk-denial as walkDenial};
-use crate::distances::find_distances;
-use crate::ecmp::find_figures;
 use crate::entry::entry;
 use crate::figures::Figures;
 use crate::figures::Hop;
 use crate::figures::Spread;
 use crate::figures::Walk;
+use crate::routing::route;
 use crate::units::Grains;
 use crate::units::Labels;
 use crate::units::round_up;
@@ -68,6 +66,21 @@ fn of_order(question: Question) -> Denial
     }
 }
 
+// The list without entries: it ends where it begins.
+fn stay<V: Tariff>(source: u8) -> Walk<V>
+    ensures { λ r. ⌜ Stays (algebra (V·Ranking .good) (V·Tariff .joining)) source r ⌝ }
+{
+    Walk {
+        end: source,
+        figures: Figures {
+            value: V::neutral(),
+            grains: Grains(0),
+            delay: Microseconds(0),
+            labels: Labels(0),
+        },
+    }
+}
+
 // One entry more: delays add up, and each is rounded up to grains by itself.
 fn extend<V: Tariff>(walked: Walk<V>, hop: Hop<V>, grain: Microseconds) -> Walk<V>
     requires grain { ⌜ 1 ≤ grain .0 ⌝ }
@@ -100,26 +113,13 @@ fn follow<M: Map, V: Tariff>(
     dist: &[u32],
     spread: &[Spread<V>],
 ) -> Result<Walk<V>, Denial>
-    requires nodes { ⌜ n ≡ M·Map .meaning (now map) .nodes ⌝ }
-    requires sized { ⌜ n * n ≤ length (now dist) ⌝ }
-    requires space { ⌜ n * n ≤ length (now spread) ⌝ }
-    requires exact { ⌜ ExactAt (M·Map .meaning (now map)) n (now dist) ⌝ }
-    requires figured { ⌜ FiguredAt (M·Map .meaning (now map)) (algebra (V·Ranking .good) (V·Tariff .joining)) n (now spread) ⌝ }
+    requires routed { ⌜ Routed (M·Map .meaning (now map)) (algebra (V·Ranking .good) (V·Tariff .joining)) n (now dist) (now spread) ⌝ }
     requires from { ⌜ source < n ⌝ }
     requires grain { ⌜ 1 ≤ grain .0 ⌝ }
     requires short { ⌜ length (now list) ≤ 10 ⌝ }
     ensures { λ r. ⌜ WalkReply (M·Map .meaning (now (map .entry))) (algebra (V·Ranking .good) (V·Tariff .joining)) source (grain .0) (now (list .entry)) r ⌝ }
 {
-    let start = Figures {
-        value: V::neutral(),
-        grains: Grains(0),
-        delay: Microseconds(0),
-        labels: Labels(0),
-    };
-    let mut walked = Walk {
-        end: source,
-        figures: start,
-    };
+    let mut walked = stay(source);
     for i in 0..list.len() {
         match entry(map, n, dist, spread, walked.end as usize, list[i]) {
             Some(hop) => walked = extend(walked, hop, grain),
@@ -147,7 +147,6 @@ pub fn walk<M: Map, V: Tariff>(
 {
     let n = map.nodes();
     check_walk(n, source, grain, dist.len(), spread.len(), list.len())?;
-    find_distances(map, dist, spread);
-    find_figures(map, dist, spread);
+    route(map, n, dist, spread);
     follow(map, source, grain, list, n, dist, spread)
 }

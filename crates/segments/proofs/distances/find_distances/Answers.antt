@@ -2,7 +2,6 @@ use mathlib.Core.Path.{_≡_, refl, sym, _∙_, subst}
 use mathlib.Core.Logic.{⊎-elim}
 use Prim.Native.Nat.{_+_, _*_, _≤_, _<_}
 use native.Mathlib.Omega.{arith}
-use lib.ListN.{length}
 use Rattle.std.proofs.shelf.Tests.{cases-lt}
 use Rattle.segments.specs.Distances.{Exact, delays}
 use Rattle.segments.specs.Relaxations.{Found}
@@ -13,18 +12,18 @@ pub loop-k-holds : need.loop-k-holds
 loop-k-holds g c =
     let net = g .M·Map .meaning (c .args .map .now) in
     let sound = g .M·Map .sound (c .args .map .now) in
-    (start-found net sound (c .nodes-n .result) (c .start .last .dist) (c .start .ensures), λ j e. omega arith)
+    (start-found net sound (c .args .n) (c .start .last .dist) (c .start .ensures), λ j e. omega arith)
 
 pub round-requires : need.round-requires
 round-requires g c κs =
     let net = g .M·Map .meaning (c .args .map .now) in
     let sound = g .M·Map .sound (c .args .map .now) in
-    let n = c .nodes-n .result in
-    let same = c .nodes-n .ensures in
+    let n = c .args .n in
+    let same = c .pre .nodes in
     record {
       nodes = same;
-      sized = subst (λ m. n * n ≤ m) (sym (c .loop-k .kept .dist ∙ c .start .kept .dist)) (subst (λ m. m * m ≤ length (c .args .dist .now)) (sym same) (c .pre .sized));
-      space = subst (λ m. n * n ≤ m) (sym (c .loop-k .kept .spread)) (subst (λ m. m * m ≤ length (c .args .spread .now)) (sym same) (c .pre .space));
+      sized = subst (λ m. n * n ≤ m) (sym (c .loop-k .kept .dist ∙ c .start .kept .dist)) (c .pre .sized);
+      space = subst (λ m. n * n ≤ m) (sym (c .loop-k .kept .spread)) (c .pre .space);
       known = found-known net sound n same (c .loop-k .k) (c .loop-k .dist) (c .loop-k .inv .0) (c .loop-k-test .taken);
     }
 
@@ -32,15 +31,19 @@ pub returns-then-not-improves : need.returns-then-not-improves
 returns-then-not-improves g c =
     let net = g .M·Map .meaning (c .args .map .now) in
     let sound = g .M·Map .sound (c .args .map .now) in
-    let n = c .nodes-n .result in
-    let same = c .nodes-n .ensures in
+    let n = c .args .n in
+    let same = c .pre .nodes in
     let k = c .loop-k .k in
     let old = c .loop-k .dist in
     let new = delays (c .round .last .spread) in
     let still = c .improves .ensures .none (c .if-not-improves .taken) in
-    let exact : Exact net old = round-exact net sound n same k old (c .loop-k .inv .0) new (c .round .ensures) still in
+    let exact : Exact net n old = round-exact net sound n same k old (c .loop-k .inv .0) new (c .round .ensures) still in
     record {
-      exact = exact-same net n same old (c .improves .last .dist) (λ i h. still i h ∙ sym (c .improves .ensures .taken i h)) exact;
+      measured = record {
+        nodes = same;
+        sized = subst (λ m. n * n ≤ m) (sym (c .improves .kept .dist ∙ c .loop-k .kept .dist ∙ c .start .kept .dist)) (c .pre .sized);
+        exact = exact-same net n old (c .improves .last .dist) (λ i h. still i h ∙ sym (c .improves .ensures .taken i h)) exact;
+      };
       rounds = record { links = k; made = refl; enough = found-enough net sound n same k old (c .loop-k .inv .0) exact; least = c .loop-k .inv .1 };
     }
 
@@ -48,8 +51,8 @@ pub loop-k-again : need.loop-k-again
 loop-k-again g c =
     let net = g .M·Map .meaning (c .args .map .now) in
     let sound = g .M·Map .sound (c .args .map .now) in
-    let n = c .nodes-n .result in
-    let same = c .nodes-n .ensures in
+    let n = c .args .n in
+    let same = c .pre .nodes in
     let k = c .loop-k .k in
     let old = c .loop-k .dist in
     let new = delays (c .round .last .spread) in (
@@ -64,7 +67,7 @@ pub unreachable-requires : need.unreachable-requires
 unreachable-requires g c κs =
     let net = g .M·Map .meaning (c .args .map .now) in
     let sound = g .M·Map .sound (c .args .map .now) in
-    let n = c .nodes-n .result in
+    let n = c .args .n in
     let end : c .loop-k .k ≡ n = omega arith in
-    let e = enough-all net sound n (c .nodes-n .ensures) (c .loop-k .dist) (subst (λ k. Found net k n (c .loop-k .dist)) end (c .loop-k .inv .0)) in
-    omega (arith, c .loop-k .inv .1 _ e, end, sound .nodes-low, c .nodes-n .ensures)
+    let e = enough-all net sound n (c .pre .nodes) (c .loop-k .dist) (subst (λ k. Found net k n (c .loop-k .dist)) end (c .loop-k .inv .0)) in
+    omega (arith, c .loop-k .inv .1 _ e, end, sound .nodes-low, c .pre .nodes)

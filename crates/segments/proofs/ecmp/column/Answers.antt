@@ -24,14 +24,12 @@ figures-between-figures-requires g c κs =
     let alg = algebra (g .V·Ranking .good) (g .V·Tariff .joining) in
     let l = c .loop-key in
     record {
-      nodes = c .pre .nodes;
-      sized = c .pre .sized;
+      measured = c .pre .measured;
       space = subst (λ m. c .args .n * c .args .n ≤ m) (sym (l .kept .spread)) (c .pre .space);
-      from = key-below net alg (c .args .n) (c .args .dist .now) (c .args .v) sound (c .pre .nodes) (c .pre .exact) (c .pre .to) (l .bar) (l .spread) (l .inv .0) (c .in-Some .key) (c .in-Some .ensures tt);
+      from = key-below net alg (c .args .n) (c .args .dist .now) (c .args .v) sound (c .pre .measured) (c .pre .to) (l .bar) (l .spread) (l .inv .0) (c .in-Some .key) (c .in-Some .ensures tt);
       to = c .pre .to;
-      exact = c .pre .exact;
-      reached = key-path net alg (c .args .n) (c .args .dist .now) (c .args .v) sound (c .pre .nodes) (c .pre .exact) (c .pre .to) (l .bar) (l .spread) (l .inv .0) (c .in-Some .key) (c .in-Some .ensures tt);
-      heads = key-heads net alg (c .args .n) (c .args .dist .now) (c .args .v) sound (c .pre .nodes) (c .pre .exact) (c .pre .to) (l .bar) (l .spread) (l .inv .0) (c .in-Some .key) (c .in-Some .ensures tt);
+      reached = key-path net alg (c .args .n) (c .args .dist .now) (c .args .v) sound (c .pre .measured) (c .pre .to) (l .bar) (l .spread) (l .inv .0) (c .in-Some .key) (c .in-Some .ensures tt);
+      heads = key-heads net alg (c .args .n) (c .args .dist .now) (c .args .v) sound (c .pre .measured) (c .pre .to) (l .bar) (l .spread) (l .inv .0) (c .in-Some .key) (c .in-Some .ensures tt);
     }
 
 pub mul-u : need.mul-u
@@ -40,8 +38,8 @@ mul-u g c =
     let sound = g .M·Map .sound (c .args .map .now) in
     let alg = algebra (g .V·Ranking .good) (g .V·Tariff .joining) in
     let l = c .loop-key in
-    let k = key-below net alg (c .args .n) (c .args .dist .now) (c .args .v) sound (c .pre .nodes) (c .pre .exact) (c .pre .to) (l .bar) (l .spread) (l .inv .0) (c .in-Some .key) (c .in-Some .ensures tt) in
-    fits-place (c .in-Some .key % c .args .n) (c .args .n) k (subst (λ m. m ≤ 64) (sym (c .pre .nodes)) (sound .nodes-high))
+    let k = key-below net alg (c .args .n) (c .args .dist .now) (c .args .v) sound (c .pre .measured) (c .pre .to) (l .bar) (l .spread) (l .inv .0) (c .in-Some .key) (c .in-Some .ensures tt) in
+    fits-place (c .in-Some .key % c .args .n) (c .args .n) k (subst (λ m. m ≤ 64) (sym (c .pre .measured .nodes)) (sound .nodes-high))
 
 pub add-u : need.add-u
 add-u g c =
@@ -49,8 +47,8 @@ add-u g c =
     let sound = g .M·Map .sound (c .args .map .now) in
     let alg = algebra (g .V·Ranking .good) (g .V·Tariff .joining) in
     let l = c .loop-key in
-    let k = key-below net alg (c .args .n) (c .args .dist .now) (c .args .v) sound (c .pre .nodes) (c .pre .exact) (c .pre .to) (l .bar) (l .spread) (l .inv .0) (c .in-Some .key) (c .in-Some .ensures tt) in
-    fits-next (c .in-Some .key % c .args .n) (c .args .n) (c .args .v) k (c .pre .to) (subst (λ m. m ≤ 64) (sym (c .pre .nodes)) (sound .nodes-high))
+    let k = key-below net alg (c .args .n) (c .args .dist .now) (c .args .v) sound (c .pre .measured) (c .pre .to) (l .bar) (l .spread) (l .inv .0) (c .in-Some .key) (c .in-Some .ensures tt) in
+    fits-next (c .in-Some .key % c .args .n) (c .args .n) (c .args .v) k (c .pre .to) (subst (λ m. m ≤ 64) (sym (c .pre .measured .nodes)) (sound .nodes-high))
 
 pub note-requires : need.note-requires
 note-requires g c κs =
@@ -58,7 +56,7 @@ note-requires g c κs =
     let sound = g .M·Map .sound (c .args .map .now) in
     let alg = algebra (g .V·Ranking .good) (g .V·Tariff .joining) in
     let l = c .loop-key in
-    let k = key-below net alg (c .args .n) (c .args .dist .now) (c .args .v) sound (c .pre .nodes) (c .pre .exact) (c .pre .to) (l .bar) (l .spread) (l .inv .0) (c .in-Some .key) (c .in-Some .ensures tt) in
+    let k = key-below net alg (c .args .n) (c .args .dist .now) (c .args .v) sound (c .pre .measured) (c .pre .to) (l .bar) (l .spread) (l .inv .0) (c .in-Some .key) (c .in-Some .ensures tt) in
     lt-of-lt-of-le (digits-lt k (c .pre .to)) (subst (λ m. c .args .n * c .args .n ≤ m) (sym (l .kept .spread)) (c .pre .space))
 
 pub add-bar : need.add-bar
@@ -67,7 +65,7 @@ add-bar g c =
     let sound = g .M·Map .sound (c .args .map .now) in
     let alg = algebra (g .V·Ranking .good) (g .V·Tariff .joining) in
     let l = c .loop-key in
-    fits-key (c .in-Some .key) (key-small net alg (c .args .n) (c .args .dist .now) (c .args .v) sound (c .pre .nodes) (c .pre .exact) (c .pre .to) (l .bar) (l .spread) (l .inv .0) (c .in-Some .key) (c .in-Some .ensures tt))
+    fits-key (c .in-Some .key) (key-small net alg (c .args .n) (c .args .dist .now) (c .args .v) sound (c .pre .measured) (c .pre .to) (l .bar) (l .spread) (l .inv .0) (c .in-Some .key) (c .in-Some .ensures tt))
 
 pub loop-key-less : need.loop-key-less
 loop-key-less g c =
@@ -75,7 +73,7 @@ loop-key-less g c =
     let sound = g .M·Map .sound (c .args .map .now) in
     let alg = algebra (g .V·Ranking .good) (g .V·Tariff .joining) in
     let l = c .loop-key in
-    omega (arith, c .in-Some .ensures tt .0 .from, key-small net alg (c .args .n) (c .args .dist .now) (c .args .v) sound (c .pre .nodes) (c .pre .exact) (c .pre .to) (l .bar) (l .spread) (l .inv .0) (c .in-Some .key) (c .in-Some .ensures tt))
+    omega (arith, c .in-Some .ensures tt .0 .from, key-small net alg (c .args .n) (c .args .dist .now) (c .args .v) sound (c .pre .measured) (c .pre .to) (l .bar) (l .spread) (l .inv .0) (c .in-Some .key) (c .in-Some .ensures tt))
 
 pub loop-key-again : need.loop-key-again
 loop-key-again g c =
@@ -89,8 +87,8 @@ loop-key-again g c =
     let s = c .figures-between-figures .result in
     let wide = subst (λ m. n * n ≤ m) (sym (l .kept .spread)) (c .pre .space) in
     subst (λ (xs : List (Spread (g .V .Denot))). FilledTo net alg n (c .args .dist .now) v (key + 1) xs × Spared alg n v (c .args .spread .now) xs) (sym (c .note .ensures)) (
-      filled-more net alg n (c .args .dist .now) v sound (c .pre .nodes) (c .pre .exact) (c .pre .to) (l .bar) (l .spread) (l .inv .0) key (c .in-Some .ensures tt) s wide (c .figures-between-figures .ensures),
-      spared-more net alg n (c .args .dist .now) v sound (c .pre .nodes) (c .pre .exact) (c .pre .to) (l .bar) (l .spread) (l .inv .0) key (c .in-Some .ensures tt) s wide (c .figures-between-figures .ensures) (c .args .spread .now) (l .inv .1),
+      filled-more net alg n (c .args .dist .now) v sound (c .pre .measured) (c .pre .to) (l .bar) (l .spread) (l .inv .0) key (c .in-Some .ensures tt) s wide (c .figures-between-figures .ensures),
+      spared-more net alg n (c .args .dist .now) v sound (c .pre .measured) (c .pre .to) (l .bar) (l .spread) (l .inv .0) key (c .in-Some .ensures tt) s wide (c .figures-between-figures .ensures) (c .args .spread .now) (l .inv .1),
     )
 
 pub returns : need.returns
@@ -100,6 +98,6 @@ returns g c =
     let alg = algebra (g .V·Ranking .good) (g .V·Tariff .joining) in
     let l = c .loop-key in
     record {
-      done = filled-all net alg (c .args .n) (c .args .dist .now) (c .args .v) sound (c .pre .nodes) (c .pre .exact) (c .pre .to) (l .bar) (l .spread) (l .inv .0) (c .in-rest .ensures tt);
+      done = filled-all net alg (c .args .n) (c .args .dist .now) (c .args .v) sound (c .pre .measured) (c .pre .to) (l .bar) (l .spread) (l .inv .0) (c .in-rest .ensures tt);
       spared = l .inv .1;
     }

@@ -26,13 +26,13 @@ pub index-spread-link : need.index-spread-link
 index-spread-link g c =
     let net = g .M·Map .meaning (c .args .map .now) in
     let sound = g .M·Map .sound (c .args .map .now) in
-    lt-of-lt-of-le (at-head net sound (c .args .n) (c .args .v) (c .loop-p .p) (c .in-Some .link) (c .pre .nodes) (c .pre .to) (c .in-Some .ensures tt .0)) (c .pre .space)
+    lt-of-lt-of-le (at-head net sound (c .args .n) (c .args .v) (c .loop-p .p) (c .in-Some .link) (c .pre .measured .nodes) (c .pre .to) (c .in-Some .ensures tt .0)) (c .pre .space)
 
 pub offset-spread-link : need.offset-spread-link
 offset-spread-link g c =
     let net = g .M·Map .meaning (c .args .map .now) in
     let sound = g .M·Map .sound (c .args .map .now) in
-    weaker _ _ (lt-of-lt-of-le (at-head net sound (c .args .n) (c .args .v) (c .loop-p .p) (c .in-Some .link) (c .pre .nodes) (c .pre .to) (c .in-Some .ensures tt .0)) (c .pre .space))
+    weaker _ _ (lt-of-lt-of-le (at-head net sound (c .args .n) (c .args .v) (c .loop-p .p) (c .in-Some .link) (c .pre .measured .nodes) (c .pre .to) (c .in-Some .ensures tt .0)) (c .pre .space))
 
 pub add-delay : need.add-delay
 add-delay g c =
@@ -43,7 +43,7 @@ add-delay g c =
     let t = c .in-Some .ensures tt in
     let i = l .head * c .args .n + c .args .v in
     let s = sound .each (c .loop-p .p) l (t .0) in
-    let within = lt-of-lt-of-le (at-head net sound (c .args .n) (c .args .v) (c .loop-p .p) l (c .pre .nodes) (c .pre .to) (t .0)) (c .pre .space) in
+    let within = lt-of-lt-of-le (at-head net sound (c .args .n) (c .args .v) (c .loop-p .p) l (c .pre .measured .nodes) (c .pre .to) (t .0)) (c .pre .space) in
     let read = slot-read alg (c .args .spread .now) i (c .index-spread-link .result) within (c .index-spread-link .is) in
     let small = ecmp-small net alg sound (l .head) (c .args .v) (slot alg (c .args .spread .now) i .delay .0) (slot alg (c .args .spread .now) i .value) (s .head) (c .pre .heads l (t .1)) in
     fits-delay (l .delay .0) (c .index-spread-link .result .delay .0) (s .delay) (subst (λ m. m ≤ 6300000) (ap (λ r. r .delay .0) read) small)
@@ -65,7 +65,7 @@ loop-p-again g c =
           let t = w .in-Some .ensures tt in
           let i = l .head * n + v in
           let r = w .index-spread-link .result in
-          let within = lt-of-lt-of-le (at-head net sound n v p l (c .pre .nodes) (c .pre .to) (t .0)) (c .pre .space) in
+          let within = lt-of-lt-of-le (at-head net sound n v p l (c .pre .measured .nodes) (c .pre .to) (t .0)) (c .pre .space) in
           let read = slot-read alg xs i r within (w .index-spread-link .is) in
           subst (Gathered net alg n xs u v (p + 1)) (sym (w .found-is ∙ ap Some (w .worse .ensures)))
           (gathered-one net alg n xs u v lawful p (c .loop-p .found) l (record { delay = record { 0 = l .delay .0 + r .delay .0 }; value = w .join-value .result }) t
@@ -84,8 +84,8 @@ unreachable-requires g c κs =
     let n = c .args .n in
     let u = c .args .u in
     let v = c .args .v in
-    let f = path-far net sound n (c .pre .nodes) (c .args .dist .now) (c .pre .exact) u v (c .pre .reached .0) (c .pre .from) (c .pre .to) (c .pre .reached .1) in
-    let b = far-path net sound n (c .pre .nodes) (c .args .dist .now) (c .pre .exact) u v (f .0) (c .pre .from) (c .pre .to) (f .1) in
+    let f = path-far net sound n (c .args .dist .now) (c .pre .measured) u v (c .pre .reached .0) (c .pre .from) (c .pre .to) (c .pre .reached .1) in
+    let b = far-path net sound n (c .args .dist .now) (c .pre .measured) u v (f .0) (c .pre .from) (c .pre .to) (f .1) in
     gathered-some net alg n (c .args .spread .now) u v (c .loop-p .p) (b .0) (c .pre .other) (omega (arith, c .loop-p-test .left, c .places-p-end .ensures)) (b .1)
     (subst (Gathered net alg n (c .args .spread .now) u v (c .loop-p .p)) (c .in-None .is) (c .loop-p .inv))
 

@@ -14,11 +14,11 @@ pub index-dist-link : need.index-dist-link
 index-dist-link g c =
     let net = g .M·Map .meaning (c .args .map .now) in
     let sound = g .M·Map .sound (c .args .map .now) in
-    let h = head-node net sound (c .args .n) (c .pre .nodes) (c .args .place) (c .in-Some .link) (sym (c .in-Some .ensures tt)) in
-    lt-of-lt-of-le (digits-lt h (c .pre .to)) (c .pre .sized)
+    let h = head-node net sound (c .args .n) (c .pre .measured .nodes) (c .args .place) (c .in-Some .link) (sym (c .in-Some .ensures tt)) in
+    lt-of-lt-of-le (digits-lt h (c .pre .to)) (c .pre .measured .sized)
 
 pub index-dist-u : need.index-dist-u
-index-dist-u g c = lt-of-lt-of-le (digits-lt (c .pre .from) (c .pre .to)) (c .pre .sized)
+index-dist-u g c = lt-of-lt-of-le (digits-lt (c .pre .from) (c .pre .to)) (c .pre .measured .sized)
 
 pub add-link : need.add-link
 add-link g c =
@@ -27,24 +27,24 @@ add-link g c =
     let l = c .in-Some .link in
     let at = sym (c .in-Some .ensures tt) in
     let i = l .head * c .args .n + c .args .v in
-    let h = head-node net sound (c .args .n) (c .pre .nodes) (c .args .place) l at in
-    let k = exact-known net sound (c .args .n) (c .pre .nodes) (c .args .dist .now) (c .pre .exact) i (digits-lt h (c .pre .to)) in
+    let h = head-node net sound (c .args .n) (c .pre .measured .nodes) (c .args .place) l at in
+    let k = exact-known net sound (c .args .n) (c .args .dist .now) (c .pre .measured) i (digits-lt h (c .pre .to)) in
     fits-sum (l .weight) (getD (c .args .dist .now) i 0) (sound .each (c .args .place) l at .weight-high) (rest-small (getD (c .args .dist .now) i 0) k (c .if-rest .left))
 
 pub returns-then-rest : need.returns-then-rest
 returns-then-rest g c =
     let net = g .M·Map .meaning (c .args .map .now) in
     let sound = g .M·Map .sound (c .args .map .now) in
-    tight-rest net sound (c .args .n) (c .pre .nodes) (c .args .dist .now) (c .pre .exact) (c .args .u) (c .args .v) (c .args .place) (c .pre .from) (c .pre .to) (c .in-Some .link) (sym (c .in-Some .ensures tt)) (c .if-rest .taken)
+    tight-rest net sound (c .args .n) (c .args .dist .now) (c .pre .measured) (c .args .u) (c .args .v) (c .args .place) (c .pre .from) (c .pre .to) (c .in-Some .link) (sym (c .in-Some .ensures tt)) (c .if-rest .taken)
 
 pub returns-then-link-rest : need.returns-then-link-rest
 returns-then-link-rest g c =
     let net = g .M·Map .meaning (c .args .map .now) in
     let sound = g .M·Map .sound (c .args .map .now) in
-    (sym (c .in-Some .ensures tt), tight-yes net sound (c .args .n) (c .pre .nodes) (c .args .dist .now) (c .pre .exact) (c .args .u) (c .args .v) (c .args .place) (c .pre .from) (c .pre .to) (c .in-Some .link) (sym (c .in-Some .ensures tt)) (c .if-link-u .left) (c .if-rest .left) (c .if-link-rest .taken))
+    (sym (c .in-Some .ensures tt), tight-yes net sound (c .args .n) (c .args .dist .now) (c .pre .measured) (c .args .u) (c .args .v) (c .args .place) (c .pre .from) (c .pre .to) (c .in-Some .link) (sym (c .in-Some .ensures tt)) (c .if-link-u .left) (c .if-rest .left) (c .if-link-rest .taken))
 
 pub returns-else-link-rest : need.returns-else-link-rest
 returns-else-link-rest g c =
     let net = g .M·Map .meaning (c .args .map .now) in
     let sound = g .M·Map .sound (c .args .map .now) in
-    tight-sum net sound (c .args .n) (c .pre .nodes) (c .args .dist .now) (c .pre .exact) (c .args .u) (c .args .v) (c .args .place) (c .pre .from) (c .pre .to) (c .in-Some .link) (sym (c .in-Some .ensures tt)) (c .if-link-rest .left)
+    tight-sum net sound (c .args .n) (c .args .dist .now) (c .pre .measured) (c .args .u) (c .args .v) (c .args .place) (c .pre .from) (c .pre .to) (c .in-Some .link) (sym (c .in-Some .ensures tt)) (c .if-link-rest .left)

@@ -9,8 +9,8 @@ use Rattle.segments.proofs.entry.entry.Needs.{in-rest·by·in-0-to-63·then-in
 
 pub node-hop-requires : need.node-hop-requires
 node-hop-requires g c κs = record {
-  sized = lt-of-lt-of-le (digits-lt (c .pre .from) (c .if-index-n .taken)) (c .pre .sized);
-  space = lt-of-lt-of-le (digits-lt (c .pre .from) (c .if-index-n .taken)) (c .pre .space);
+  sized = lt-of-lt-of-le (digits-lt (c .pre .from) (c .if-index-n .taken)) (c .pre .routed .measured .sized);
+  space = lt-of-lt-of-le (digits-lt (c .pre .from) (c .if-index-n .taken)) (c .pre .routed .space);
   small = omega arith;
 }
 
@@ -20,7 +20,7 @@ returns-in-0-to-63 g c =
     let sound = g .M·Map .sound (c .args .map .now) in
     let alg = algebra (g .V·Ranking .good) (g .V·Tariff .joining) in
     let range : c .args .code < 64 = omega arith in
-    entry-node net alg sound (c .args .n) (c .pre .nodes) (c .args .dist .now) (c .pre .exact) (c .args .spread .now) (c .pre .figured) (c .args .u) (c .args .code) (c .pre .from)
+    entry-node net alg sound (c .args .n) (c .args .dist .now) (c .args .spread .now) (c .pre .routed) (c .args .u) (c .args .code) (c .pre .from)
     range (c .if-index-n .taken) (c .if-index-u .taken) (c .node-hop .result) (c .node-hop .ensures)
 
 pub returns-in-256-to-511 : need.returns-in-256-to-511
@@ -30,7 +30,7 @@ returns-in-256-to-511 g c =
     let alg = algebra (g .V·Ranking .good) (g .V·Tariff .joining) in
     let low : 256 ≤ c .args .code = omega arith in
     let high : c .args .code < 512 = omega arith in
-    entry-link net alg sound (c .args .n) (c .pre .nodes) (c .args .dist .now) (c .pre .exact) (c .args .spread .now) (c .pre .figured) (c .args .u) (c .args .code) (c .pre .from)
+    entry-link net alg sound (c .args .n) (c .args .dist .now) (c .args .spread .now) (c .pre .routed) (c .args .u) (c .args .code) (c .pre .from)
     low high (c .if-leaves .ensures tt) (c .link-hop .result) (c .link-hop .ensures)
 
 pub returns-in-rest : need.returns-in-rest
@@ -38,7 +38,7 @@ returns-in-rest g c =
     let net = g .M·Map .meaning (c .args .map .now) in
     let sound = g .M·Map .sound (c .args .map .now) in
     let alg = algebra (g .V·Ranking .good) (g .V·Tariff .joining) in
-    let none = entry-none net alg sound (c .args .n) (c .pre .nodes) (c .args .dist .now) (c .pre .exact) (c .args .spread .now) (c .pre .figured) (c .args .u) (c .args .code) (c .pre .from) in
+    let none = entry-none net alg sound (c .args .n) (c .args .dist .now) (c .args .spread .now) (c .pre .routed) (c .args .u) (c .args .code) (c .pre .from) in
     elim (c .in-rest .came) [
       | in-rest·by·in-0-to-63·then-index-n·else-index-u w ↦ none (λ r k ne. ne (w .if-index-u .left)) (λ low high l. omega arith)
       | in-rest·by·in-0-to-63·else-index-n w ↦ none (λ r k ne. omega (arith, w .if-index-n .left)) (λ low high l. omega arith)

@@ -1,35 +1,24 @@
-use mathlib.Core.Path.{_≡_, sym, ap, _∙_, subst}
-use Prim.Native.Nat.{_*_, _≤_}
+use mathlib.Core.Path.{_≡_, ap, _∙_, subst}
 use lib.ListN.{length}
 use Rattle.std.proofs.shelf.Results.{err-from-errBy}
 use Rattle.std.specs.declared.option.Option.the-variants.{Some}
 use Rattle.std.specs.declared.result.Result.the-variants.{Err}
 use Rattle.netmap.specs.Asking.{reply}
-use Rattle.netmap.proofs.Asking.{granted, denied}
+use Rattle.netmap.proofs.Asking.{denied}
 use Rattle.segments.specs.Algebra.{algebra}
-use Rattle.segments.specs.Distances.{ExactAt}
-use Rattle.segments.specs.Spreads.{FiguredAt}
 use Rattle.segments.specs.Walks.{walk-denial}
 use Rattle.segments.proofs.WalkAdmitted.{admitted, walk-denied}
 use Rattle.segments.proofs.walking.walk.Needs as need
 
+pub route-requires : need.route-requires
+route-requires g c κs =
+    let a = admitted (c .nodes-n .result) (c .args .source) (c .args .grain .0) (length (c .args .dist .now)) (length (c .args .spread .now)) (length (c .args .list .now)) (c .in-Continue-check-walk .ensures tt) in
+    record { nodes = c .nodes-n .ensures; sized = a .sized; space = a .space }
+
 pub follow-requires : need.follow-requires
 follow-requires g c κs =
-    let net = g .M·Map .meaning (c .args .map .now) in
-    let alg = algebra (g .V·Ranking .good) (g .V·Tariff .joining) in
-    let n = c .nodes-n .result in
-    let same = c .nodes-n .ensures in
-    let a = admitted n (c .args .source) (c .args .grain .0) (length (c .args .dist .now)) (length (c .args .spread .now)) (length (c .args .list .now)) (granted (walk-denial n (c .args .source) (c .args .grain .0) (length (c .args .dist .now)) (length (c .args .spread .now)) (length (c .args .list .now))) tt tt (c .in-Continue-check-walk .ensures tt)) in
-    record {
-      nodes = same;
-      sized = subst (λ m. n * n ≤ m) (sym (c .find-distances .kept .dist)) (a .sized);
-      space = subst (λ m. n * n ≤ m) (sym (c .find-figures .kept .spread ∙ c .find-distances .kept .spread)) (a .space);
-      exact = subst (λ m. ExactAt net m (c .find-distances .last .dist)) (sym same) (c .find-distances .ensures .exact);
-      figured = subst (λ m. FiguredAt net alg m (c .find-figures .last .spread)) (sym same) (c .find-figures .ensures);
-      from = a .from;
-      grain = a .fine;
-      short = a .short;
-    }
+    let a = admitted (c .nodes-n .result) (c .args .source) (c .args .grain .0) (length (c .args .dist .now)) (length (c .args .spread .now)) (length (c .args .list .now)) (c .in-Continue-check-walk .ensures tt) in
+    record { routed = c .route .ensures; from = a .from; grain = a .fine; short = a .short }
 
 pub returns-in-Break-check-walk : need.returns-in-Break-check-walk
 returns-in-Break-check-walk g c =
