@@ -20,14 +20,34 @@ use Rattle.segments.specs.Paths.{IsPath, Tight, Ecmp}
 use Rattle.segments.specs.Spreads.{Keyed, slot, HasFigures, Figured, Spared}
 use Rattle.segments.proofs.DistanceSlots.{cell-is, cell-none}
 use Rattle.segments.proofs.ExactDistances.{exact-known, path-far, far-path}
-use Rattle.segments.proofs.NodesReached.{head-node}
+use Rattle.segments.proofs.NearestKeys.{key-below, key-at, key-is}
+use Rattle.segments.proofs.NodesReached.{link-sound, few-nodes}
 use Rattle.segments.proofs.OptionValues.{some-same, none-some}
 use Rattle.segments.proofs.TightLinks.{tight-nearer}
+
+module _ (net : Net) (sound : Sound net) {n : ℕ} {dist : List ℕ} (m : Measured net n dist) {v bar key : ℕ} (nv : v < n) (k : Keyed n dist v bar key) where
+  pub key-small : key < 264237184
+  key-small =
+      let small = far-small (getD dist (key % n * n + v) 0) (k .far) (exact-known net sound n dist m (key % n * n + v) (digits-lt (key-below k) nv)) (key-at k) in
+      bound (k .far) n (key % n) small (few-nodes net sound n (m .nodes)) (key-below k) (key-is k)
+    where
+      far-small : (x w : ℕ) → Known x → cell x ≡ Some w → w ≤ 4128705
+      far-small x w (inl h) e = omega (arith, cell-is x w e, h)
+      far-small x w (inr h) e = absurd (none-some (cell x) w (cell-none x h) e)
+
+      bound : (f n r : ℕ) → f ≤ 4128705 → n ≤ 64 → r < n → f * n + r ≡ key → key < 264237184
+      bound f n r a b h e = omega (arith, mul-le f n 4128705 64 a b)
+
+  pub key-path : (ls : List Link) × IsPath net (key % n) ls v
+  key-path = let b = far-path net sound n dist m (key % n) v (k .far) (key-below k) nv (key-at k) in (b .0, b .1 .path)
 
 module _ {V : Type 0} (net : Net) (alg : Algebra V) (n : ℕ) (dist : List ℕ) (v : ℕ) where
   -- the figures of all nodes whose keys are below the bar
   abbrev pub FilledTo : ℕ → List (Spread V) → Type 0
   FilledTo bar xs = (u w : ℕ) → u < n → table-of n dist u v ≡ Some w → w * n + u < bar → HasFigures net alg n xs u v
+
+  pub spared-first : (xs : List (Spread V)) → Spared alg n v xs xs
+  spared-first xs a b h ne = refl
 
   pub filled-first : (xs : List (Spread V)) → FilledTo 0 xs
   filled-first xs u w nu e h = absurd (omega arith)
@@ -41,33 +61,6 @@ module _ {V : Type 0} (net : Net) (alg : Algebra V) (n : ℕ) (dist : List ℕ) 
         (cases-lt (f .0 * n + u) bar)
 
     module _ (key : ℕ) (least : LeastOf (Keyed n dist v bar) (Some key)) where
-      key-node : key % n ≡ least .0 .node
-      key-node = ap (λ k. k % n) (sym (least .0 .is)) ∙ digits-mod (least .0 .far) (least .0 .below)
-
-      pub key-below : key % n < n
-      key-below = subst (λ m. m < n) (sym key-node) (least .0 .below)
-
-      key-at : table-of n dist (key % n) v ≡ Some (least .0 .far)
-      key-at = subst (λ m. table-of n dist m v ≡ Some (least .0 .far)) (sym key-node) (least .0 .at)
-
-      key-is : least .0 .far * n + key % n ≡ key
-      key-is = ap (λ m. least .0 .far * n + m) key-node ∙ least .0 .is
-
-      pub key-small : key < 264237184
-      key-small =
-          let k = far-small (getD dist (key % n * n + v) 0) (least .0 .far) (exact-known net sound n dist m (key % n * n + v) (digits-lt key-below nv)) key-at in
-          bound (least .0 .far) n (key % n) k (subst (λ k. k ≤ 64) (sym (m .nodes)) (sound .nodes-high)) key-below key-is
-        where
-          far-small : (x w : ℕ) → Known x → cell x ≡ Some w → w ≤ 4128705
-          far-small x w (inl h) e = omega (arith, cell-is x w e, h)
-          far-small x w (inr h) e = absurd (none-some (cell x) w (cell-none x h) e)
-
-          bound : (f n r : ℕ) → f ≤ 4128705 → n ≤ 64 → r < n → f * n + r ≡ key → key < 264237184
-          bound f n r a b h e = omega (arith, mul-le f n 4128705 64 a b)
-
-      pub key-path : (ls : List Link) × IsPath net (key % n) ls v
-      key-path = let b = far-path net sound n dist m (key % n) v (least .0 .far) key-below nv key-at in (b .0, b .1 .path)
-
       -- what is nearer is filled
       nearer : (u w : ℕ) → u < n → table-of n dist u v ≡ Some w → w * n + u < key → HasFigures net alg n xs u v
       nearer u w nu e h = ⊎-elim (λ (b : w * n + u < bar). filled u w nu e b)
@@ -77,35 +70,37 @@ module _ {V : Type 0} (net : Net) (alg : Algebra V) (n : ℕ) (dist : List ℕ) 
       pub key-heads : (l : Link) → Tight net (key % n) v l → HasFigures net alg n xs (l .head) v
       key-heads l t =
           let u = key % n in
-          let nh = head-node net sound n (m .nodes) (t .best .path .0 .0) l (t .best .path .0 .1) in
+          let nh = link-sound net sound n (m .nodes) (t .best .path .0 .0) l (t .best .path .0 .1) .head in
           let f = path-far net sound n dist m (l .head) v (t .rest) nh nv (t .best .path .2) in
-          let d = path-far net sound n dist m u v (l ∷ t .rest) key-below nv (t .best .path) in
+          let d = path-far net sound n dist m u v (l ∷ t .rest) (key-below (least .0)) nv (t .best .path) in
           let q = tight-nearer net sound u v l (d .0) (f .0) t (d .2) (f .2) in
-          let w : d .0 ≡ least .0 .far = some-same (table-of n dist u v) (d .0) (least .0 .far) (d .1) key-at in
-          nearer (l .head) (f .0) nh (f .1) (below-row (f .0) (least .0 .far) n (l .head) u (omega (arith, q .1, w)) nh key-is)
+          let w : d .0 ≡ least .0 .far = some-same (table-of n dist u v) (d .0) (least .0 .far) (d .1) (key-at (least .0)) in
+          nearer (l .head) (f .0) nh (f .1) (below-row (f .0) (least .0 .far) n (l .head) u (omega (arith, q .1, w)) nh (key-is (least .0)))
         where
           below-row : (y w n a b : ℕ) → y < w → a < n → w * n + b ≡ key → y * n + a < key
           below-row y w n a b h k e = omega (arith, digits-lt {q = y} {m = w} {r = a} {c = n} h k)
 
-      module _ (s : Spread V) (wide : n * n ≤ length xs) (ecmp : Ecmp net alg (key % n) v (s .delay .0) (s .value)) where
-        at-slot : slot alg (set xs (key % n * n + v) s) (key % n * n + v) ≡ s
-        at-slot = getD-set-same xs (key % n * n + v) s _ (lt-of-lt-of-le (digits-lt key-below nv) wide)
+      module _ (s : Spread V) (ys : List (Spread V)) (is : ys ≡ set xs (key % n * n + v) s) (wide : n * n ≤ length xs) (ecmp : Ecmp net alg (key % n) v (s .delay .0) (s .value)) where
+        own-slot : slot alg ys (key % n * n + v) ≡ s
+        own-slot = ap (λ zs. slot alg zs (key % n * n + v)) is ∙ getD-set-same xs (key % n * n + v) s _ (lt-of-lt-of-le (digits-lt (key-below (least .0)) nv) wide)
 
-        pub filled-more : FilledTo (key + 1) (set xs (key % n * n + v) s)
+        other-slot : (i : ℕ) → (i ≡ key % n * n + v → ⊥) → slot alg ys i ≡ slot alg xs i
+        other-slot i ne = ap (λ zs. slot alg zs i) is ∙ getD-set-other xs (key % n * n + v) i s _ ne
+
+        pub filled-more : FilledTo (key + 1) ys
         filled-more u w nu e h = ⊎-elim
-            (λ (k : u ≡ key % n). subst (λ m. HasFigures net alg n (set xs (key % n * n + v) s) m v) (sym k) (subst (λ (t : Spread V). Ecmp net alg (key % n) v (t .delay .0) (t .value)) (sym at-slot) ecmp))
+            (λ (k : u ≡ key % n). subst (λ j. HasFigures net alg n ys j v) (sym k) (subst (λ (t : Spread V). Ecmp net alg (key % n) v (t .delay .0) (t .value)) (sym own-slot) ecmp))
             (λ (k : u ≡ key % n → ⊥).
-            let ne : w * n + u ≡ key → ⊥ = λ z. k (sym (digits-mod w nu) ∙ ap (λ m. m % n) z) in
-            let other : u * n + v ≡ key % n * n + v → ⊥ = λ z. k (sym (digits-div u nv) ∙ ap (λ m. m / n) z ∙ digits-div (key % n) nv) in
-            subst (λ (t : Spread V). Ecmp net alg u v (t .delay .0) (t .value)) (sym (getD-set-other xs (key % n * n + v) (u * n + v) s _ other)) (nearer u w nu e (strict (w * n + u) h ne)))
+            let ne : w * n + u ≡ key → ⊥ = λ z. k (sym (digits-mod w nu) ∙ ap (λ j. j % n) z) in
+            let other : u * n + v ≡ key % n * n + v → ⊥ = λ z. k (sym (digits-div u nv) ∙ ap (λ j. j / n) z ∙ digits-div (key % n) nv) in
+            subst (λ (t : Spread V). Ecmp net alg u v (t .delay .0) (t .value)) (sym (other-slot (u * n + v) other)) (nearer u w nu e (strict (w * n + u) h ne)))
             (cases-eq u (key % n))
           where
             strict : (k : ℕ) → k < key + 1 → (k ≡ key → ⊥) → k < key
             strict k h ne = omega arith
 
-        pub spared-more : (before : List (Spread V)) → Spared alg n v before xs → Spared alg n v before (set xs (key % n * n + v) s)
-        spared-more before kept a b nb ne =
-            getD-set-other xs (key % n * n + v) (a * n + b) s _ (λ z. ne (sym (digits-mod a nb) ∙ ap (λ m. m % n) z ∙ digits-mod (key % n) nv)) ∙ kept a b nb ne
+        pub spared-more : (before : List (Spread V)) → Spared alg n v before xs → Spared alg n v before ys
+        spared-more before kept a b nb ne = other-slot (a * n + b) (λ z. ne (sym (digits-mod a nb) ∙ ap (λ j. j % n) z ∙ digits-mod (key % n) nv)) ∙ kept a b nb ne
 
 module _ {V : Type 0} (net : Net) (alg : Algebra V) (n : ℕ) where
   -- the columns below a number are filled

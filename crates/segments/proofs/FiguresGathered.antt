@@ -15,7 +15,7 @@ use Rattle.netmap.specs.Net.{Net, Sound, link-at, places}
 use Rattle.segments.specs.declared.figures.Spread.{Spread}
 use Rattle.segments.specs.Algebra.{Algebra, AsGood, Laws}
 use Rattle.segments.specs.Paths.{IsBest, Tight, Ecmp}
-use Rattle.segments.specs.Spreads.{TightAt, slot, worse-of, HasFigures}
+use Rattle.segments.specs.Spreads.{TightAt, slot, worse-of, onward, HasFigures}
 use Rattle.segments.proofs.EcmpFromHeads.{ecmp-step}
 use Rattle.segments.proofs.JoinedValues.{as-good-refl}
 use Rattle.segments.proofs.OptionValues.{some-same, none-some}
@@ -23,12 +23,11 @@ use Rattle.segments.proofs.SegmentsFunctional.{ecmp-delay, ecmp-value}
 use Rattle.segments.proofs.SimplePaths.{heads}
 
 module _ {V : Type 0} (net : Net) (alg : Algebra V) (n : ℕ) (xs : List (Spread V)) (u v : ℕ) where
-  -- a link with the figures behind it
   abbrev onward-delay : Link → ℕ
-  onward-delay l = l .delay .0 + slot alg xs (l .head * n + v) .delay .0
+  onward-delay l = onward alg xs (l .head * n + v) l .delay .0
 
   abbrev onward-value : Link → V
-  onward-value l = alg .join (alg .of-link l) (slot alg xs (l .head * n + v) .value)
+  onward-value l = onward alg xs (l .head * n + v) l .value
 
   pub record GatheredOf (p : ℕ) (s : Spread V) : Type 0 where
     pub delay-met : (l : Link) × Tight net u v l × (onward-delay l ≡ s .delay .0)
@@ -47,7 +46,7 @@ module _ {V : Type 0} (net : Net) (alg : Algebra V) (n : ℕ) (xs : List (Spread
   pub gathered-first : Gathered 0 None
   gathered-first q l h = absurd (omega arith)
 
-  pub gathered-none : (p : ℕ) (o : Option (Spread V)) → TightAt net u v p None → Gathered p o → Gathered (p + 1) o
+  gathered-none : (p : ℕ) (o : Option (Spread V)) → TightAt net u v p None → Gathered p o → Gathered (p + 1) o
   gathered-none p None ne g = λ q l h at t. ⊎-elim (λ (e : q ≡ p). ne l (subst (λ m. link-at net m ≡ Some l) e at) t) (λ k. g q l k at t) (last-or q p h)
   gathered-none p (Some s) ne g = record {
     delay-met = g .delay-met;
@@ -56,32 +55,35 @@ module _ {V : Type 0} (net : Net) (alg : Algebra V) (n : ℕ) (xs : List (Spread
     value-worst = λ q l h at t. ⊎-elim (λ (e : q ≡ p). absurd (ne l (subst (λ m. link-at net m ≡ Some l) e at) t)) (λ k. g .value-worst q l k at t) (last-or q p h);
   }
 
+  pub gathered-same : (p : ℕ) (o r : Option (Spread V)) → TightAt net u v p None → r ≡ o → Gathered p o → Gathered (p + 1) r
+  gathered-same p o r t e g = subst (Gathered (p + 1)) (sym e) (gathered-none p o t g)
+
   module _ (lawful : Laws alg) where
-    pub gathered-one : (p : ℕ) (o : Option (Spread V)) (l : Link) (s : Spread V) → TightAt net u v p (Some l) → s .delay .0 ≡ onward-delay l → s .value ≡ onward-value l → Gathered p o → Gathered (p + 1) (Some (worse-of alg o s))
-    gathered-one p None l s a d x g = record {
-      delay-met = (l, a .1, sym d);
+    gathered-one : (p : ℕ) (o : Option (Spread V)) (l : Link) → TightAt net u v p (Some l) → Gathered p o → Gathered (p + 1) (Some (worse-of alg o (onward alg xs (l .head * n + v) l)))
+    gathered-one p None l a g = record {
+      delay-met = (l, a .1, refl);
       delay-most = λ q k h at t. ⊎-elim
-          (λ (e : q ≡ p). omega (arith, d, ap onward-delay (some-same (link-at net p) k l (subst (λ m. link-at net m ≡ Some k) e at) (a .0))))
+          (λ (e : q ≡ p). omega (arith, ap onward-delay (some-same (link-at net p) k l (subst (λ m. link-at net m ≡ Some k) e at) (a .0))))
           (λ b. absurd (g q k b at t)) (last-or q p h);
-      value-met = (l, a .1, sym x);
+      value-met = (l, a .1, refl);
       value-worst = λ q k h at t. ⊎-elim
-          (λ (e : q ≡ p). subst (λ y. AsGood alg (onward-value k) y) (ap onward-value (some-same (link-at net p) k l (subst (λ m. link-at net m ≡ Some k) e at) (a .0)) ∙ sym x) (as-good-refl alg lawful (onward-value k)))
+          (λ (e : q ≡ p). subst (λ y. AsGood alg (onward-value k) y) (ap onward-value (some-same (link-at net p) k l (subst (λ m. link-at net m ≡ Some k) e at) (a .0))) (as-good-refl alg lawful (onward-value k)))
           (λ b. absurd (g q k b at t)) (last-or q p h);
     }
-    gathered-one p (Some r) l s a d x g = record {
+    gathered-one p (Some r) l a g = record {
       delay-met = ⊎-elim
-          (λ (h : r .delay .0 < s .delay .0). (l, a .1, sym d ∙ upper (r .delay .0) (s .delay .0) h))
-          (λ (h : s .delay .0 ≤ r .delay .0). (g .delay-met .0, g .delay-met .1, g .delay-met .2 ∙ lower (r .delay .0) (s .delay .0) h))
-          (cases-lt (r .delay .0) (s .delay .0));
+          (λ (h : r .delay .0 < onward-delay l). (l, a .1, upper (r .delay .0) (onward-delay l) h))
+          (λ (h : onward-delay l ≤ r .delay .0). (g .delay-met .0, g .delay-met .1, g .delay-met .2 ∙ lower (r .delay .0) (onward-delay l) h))
+          (cases-lt (r .delay .0) (onward-delay l));
       delay-most = λ q k h at t. ⊎-elim
-          (λ (e : q ≡ p). omega (arith, d, ap onward-delay (some-same (link-at net p) k l (subst (λ m. link-at net m ≡ Some k) e at) (a .0))))
+          (λ (e : q ≡ p). omega (arith, ap onward-delay (some-same (link-at net p) k l (subst (λ m. link-at net m ≡ Some k) e at) (a .0))))
           (λ b. omega (arith, g .delay-most q k b at t)) (last-or q p h);
       value-met = ⊎-elim
-          (λ (h : alg .as-good (r .value) (s .value) ≡ true). (l, a .1, sym x ∙ ap (λ (b : Bool). cond b (s .value) (r .value)) (sym h)))
-          (λ (h : alg .as-good (r .value) (s .value) ≡ false). (g .value-met .0, g .value-met .1, g .value-met .2 ∙ ap (λ (b : Bool). cond b (s .value) (r .value)) (sym h)))
-          (cases-bool (alg .as-good (r .value) (s .value)));
+          (λ (h : alg .as-good (r .value) (onward-value l) ≡ true). (l, a .1, ap (λ (b : Bool). cond b (onward-value l) (r .value)) (sym h)))
+          (λ (h : alg .as-good (r .value) (onward-value l) ≡ false). (g .value-met .0, g .value-met .1, g .value-met .2 ∙ ap (λ (b : Bool). cond b (onward-value l) (r .value)) (sym h)))
+          (cases-bool (alg .as-good (r .value) (onward-value l)));
       value-worst = λ q k h at t. ⊎-elim
-          (λ (e : q ≡ p). subst (λ y. AsGood alg y worst) (x ∙ sym (ap onward-value (some-same (link-at net p) k l (subst (λ m. link-at net m ≡ Some k) e at) (a .0)))) new-worst)
+          (λ (e : q ≡ p). subst (λ y. AsGood alg y worst) (sym (ap onward-value (some-same (link-at net p) k l (subst (λ m. link-at net m ≡ Some k) e at) (a .0)))) new-worst)
           (λ b. lawful .transitive (onward-value k) (r .value) worst (g .value-worst q k b at t) old-worst) (last-or q p h);
     }
       where
@@ -92,17 +94,20 @@ module _ {V : Type 0} (net : Net) (alg : Algebra V) (n : ℕ) (xs : List (Spread
         lower a b h = omega arith
 
         worst : V
-        worst = cond (alg .as-good (r .value) (s .value)) (s .value) (r .value)
+        worst = cond (alg .as-good (r .value) (onward-value l)) (onward-value l) (r .value)
 
         pick : (x y : V) (b : Bool) → alg .as-good x y ≡ b → AsGood alg x (cond b y x) × AsGood alg y (cond b y x)
         pick x y true e = (subst T (sym e) tt, as-good-refl alg lawful y)
         pick x y false e = (as-good-refl alg lawful x, ⊎-elim (λ h. absurd (subst T e h)) (λ h. h) (lawful .total x y))
 
         old-worst : AsGood alg (r .value) worst
-        old-worst = pick (r .value) (s .value) (alg .as-good (r .value) (s .value)) refl .0
+        old-worst = pick (r .value) (onward-value l) (alg .as-good (r .value) (onward-value l)) refl .0
 
-        new-worst : AsGood alg (s .value) worst
-        new-worst = pick (r .value) (s .value) (alg .as-good (r .value) (s .value)) refl .1
+        new-worst : AsGood alg (onward-value l) worst
+        new-worst = pick (r .value) (onward-value l) (alg .as-good (r .value) (onward-value l)) refl .1
+
+    pub gathered-more : (p : ℕ) (o r : Option (Spread V)) (l : Link) (s w : Spread V) → TightAt net u v p (Some l) → s ≡ onward alg xs (l .head * n + v) l → w ≡ worse-of alg o s → r ≡ Some w → Gathered p o → Gathered (p + 1) r
+    gathered-more p o r l s w t e f k g = subst (Gathered (p + 1)) (sym (k ∙ ap Some (f ∙ ap (worse-of alg o) e))) (gathered-one p o l t g)
 
     pub gathered-all : (sound : Sound net) (p : ℕ) (s : Spread V) → (u ≡ v → ⊥) → places net ≤ p → ((l : Link) → Tight net u v l → HasFigures net alg n xs (l .head) v) → GatheredOf p s → Ecmp net alg u v (s .delay .0) (s .value)
     gathered-all sound p s other past heads g =

@@ -1,5 +1,5 @@
 -- A link is tried in the row of its tail, slot by slot.
-use mathlib.Core.Path.{_≡_, refl, sym, ap, _∙_}
+use mathlib.Core.Path.{_≡_, refl, sym, ap, _∙_, subst}
 use mathlib.Core.Bool.{cond}
 use mathlib.Core.List.{List}
 use Prim.Native.Nat.{ℕ, _+_, _*_, _/_, _≤_, _<_, min}
@@ -10,7 +10,10 @@ use lib.ListN.{length, getD, set}
 use lib.Seq.{getD-set-same, getD-set-other}
 use Rattle.std.proofs.shelf.Tests.{eq-eqb, ne-eqb}
 use Rattle.netmap.specs.declared.link.Link.{Link}
+use Rattle.segments.specs.declared.figures.Spread.{Spread}
+use Rattle.segments.specs.Distances.{delays}
 use Rattle.segments.specs.Relaxations.{nearer, Swept}
+use Rattle.segments.proofs.TableSlots.{delays-length, delays-set}
 
 -- the row of the link's tail is tried below v
 pub record SweptTo (n : ℕ) (l : Link) (old new xs : List ℕ) (v : ℕ) : Type 0 where
@@ -27,14 +30,14 @@ module _ (n : ℕ) (l : Link) (old new : List ℕ) where
 
   module _ (v : ℕ) (xs : List ℕ) (nv : v < n) (s : SweptTo n l old new xs v) where
     -- the slot keeps what it holds
-    pub swept-keep : getD xs (l .tail * n + v) 0 ≡ nearer (getD xs (l .tail * n + v) 0) (l .weight) (getD old (l .head * n + v) 0) → SweptTo n l old new xs (v + 1)
+    swept-keep : getD xs (l .tail * n + v) 0 ≡ nearer (getD xs (l .tail * n + v) 0) (l .weight) (getD old (l .head * n + v) 0) → SweptTo n l old new xs (v + 1)
     swept-keep e = record {
       below = below-more (λ k. getD xs (l .tail * n + k) 0 ≡ nearer (getD new (l .tail * n + k) 0) (l .weight) (getD old (l .head * n + k) 0)) v (s .below) (e ∙ ap (λ m. nearer m (l .weight) (getD old (l .head * n + v) 0)) (s .above v (omega arith) nv));
       above = λ k h g. s .above k (omega arith) g;
       others = s .others;
     }
 
-    pub swept-take : (x : ℕ) → l .tail * n + v < length xs → x ≡ nearer (getD xs (l .tail * n + v) 0) (l .weight) (getD old (l .head * n + v) 0) → SweptTo n l old new (set xs (l .tail * n + v) x) (v + 1)
+    swept-take : (x : ℕ) → l .tail * n + v < length xs → x ≡ nearer (getD xs (l .tail * n + v) 0) (l .weight) (getD old (l .head * n + v) 0) → SweptTo n l old new (set xs (l .tail * n + v) x) (v + 1)
     swept-take x within e =
         let i = l .tail * n + v in
         let other : (k : ℕ) → (k ≡ v → ⊥) → getD (set xs i x) (l .tail * n + k) 0 ≡ getD xs (l .tail * n + k) 0 = λ k ne. getD-set-other xs i (l .tail * n + k) x 0 (λ z. ne (cancel (l .tail * n) k v z)) in
@@ -64,3 +67,20 @@ nearer-more best w rest ne h = upper ∙ ap (λ b. cond b best (min best (w + re
   where
     upper : best ≡ min best (w + rest)
     upper = omega arith
+
+-- the same of the slots of the second working slice
+module _ {V : Type 0} (n : ℕ) (l : Link) (old new : List ℕ) (v : ℕ) (xs ys : List (Spread V)) (nv : v < n) (s : SweptTo n l old new (delays xs) v) where
+  pub swept-far : ys ≡ xs → getD old (l .head * n + v) 0 ≡ 4294967295 → SweptTo n l old new (delays ys) (v + 1)
+  swept-far e far = subst (λ zs. SweptTo n l old new (delays zs) (v + 1)) (sym e) (swept-keep n l old new v (delays xs) nv s (nearer-far (getD (delays xs) (l .tail * n + v) 0) (l .weight) (getD old (l .head * n + v) 0) far))
+
+  module _ (best : ℕ) (is : best ≡ getD (delays xs) (l .tail * n + v) 0) (near : getD old (l .head * n + v) 0 ≡ 4294967295 → ⊥) where
+    pub swept-more : ys ≡ xs → best ≤ l .weight + getD old (l .head * n + v) 0 → SweptTo n l old new (delays ys) (v + 1)
+    swept-more e h =
+        subst (λ zs. SweptTo n l old new (delays zs) (v + 1)) (sym e)
+        (swept-keep n l old new v (delays xs) nv s (nearer-more (getD (delays xs) (l .tail * n + v) 0) (l .weight) (getD old (l .head * n + v) 0) near (subst (λ m. m ≤ l .weight + getD old (l .head * n + v) 0) is h)))
+
+    pub swept-less : (x : Spread V) → ys ≡ set xs (l .tail * n + v) x → x .delay .0 ≡ l .weight + getD old (l .head * n + v) 0 → l .tail * n + v < length xs → l .weight + getD old (l .head * n + v) 0 < best → SweptTo n l old new (delays ys) (v + 1)
+    swept-less x e sum within h =
+        subst (λ zs. SweptTo n l old new zs (v + 1)) (sym (ap delays e ∙ delays-set xs (l .tail * n + v) x))
+        (swept-take n l old new v (delays xs) nv s (x .delay .0) (subst (λ m. l .tail * n + v < m) (sym (delays-length xs)) within)
+        (sum ∙ nearer-less (getD (delays xs) (l .tail * n + v) 0) (l .weight) (getD old (l .head * n + v) 0) near (subst (λ m. l .weight + getD old (l .head * n + v) 0 < m) is h)))

@@ -2,8 +2,9 @@
 use mathlib.Core.Path.{_≡_, refl, sym, ap, _∙_, subst}
 use mathlib.Core.List.{List}
 use mathlib.Core.Logic.{_⊎_, inl, inr, ⊎-elim}
-use Prim.Native.Nat.{ℕ, _+_, _*_, _≤_, _<_}
+use Prim.Native.Nat.{ℕ, _+_, _*_, _%_, _≤_, _<_}
 use native.Mathlib.Omega.{arith}
+use lib.Arith.{digits-mod}
 use lib.ListN.{getD}
 use Rattle.std.proofs.shelf.Tests.{cases-eq}
 use Rattle.std.specs.declared.option.Option.{Option}
@@ -51,3 +52,17 @@ keys-all n xs v bar i o past = least-same _ _ o (λ w r. r .0) (λ w r. (r, omeg
 
 pub keys-first : (n : ℕ) (xs : List ℕ) (v bar : ℕ) → LeastOf (KeyedTo n xs v bar 0) None
 keys-first n xs v bar y r = omega (arith, r .1)
+
+-- the node of a key
+module _ {n : ℕ} {xs : List ℕ} {v bar key : ℕ} (k : Keyed n xs v bar key) where
+  key-node : key % n ≡ k .node
+  key-node = ap (λ j. j % n) (sym (k .is)) ∙ digits-mod (k .far) (k .below)
+
+  pub key-below : key % n < n
+  key-below = subst (λ m. m < n) (sym key-node) (k .below)
+
+  pub key-at : table-of n xs (key % n) v ≡ Some (k .far)
+  key-at = subst (λ m. table-of n xs m v ≡ Some (k .far)) (sym key-node) (k .at)
+
+  pub key-is : k .far * n + key % n ≡ key
+  key-is = ap (λ m. k .far * n + m) key-node ∙ k .is

@@ -2,10 +2,10 @@
 use mathlib.Core.Path.{_≡_, sym, subst}
 use mathlib.Core.List.{List, [], _∷_}
 use mathlib.Core.Logic.{inl, inr}
-use Prim.Native.Nat.{ℕ, _-_, _<_}
+use Prim.Native.Nat.{ℕ, _-_, _≤_, _<_}
 use Rattle.std.specs.declared.option.Option.the-variants.{Some}
 use Rattle.netmap.specs.declared.link.Link.{Link}
-use Rattle.netmap.specs.Net.{Net, Sound, link-at}
+use Rattle.netmap.specs.Net.{Net, Sound, link-at, Sound-link}
 use Rattle.segments.specs.declared.figures.Hop.{Hop}
 use Rattle.segments.specs.Algebra.{Algebra}
 use Rattle.segments.specs.Paths.{IsPath}
@@ -26,6 +26,12 @@ pub tail-node : (net : Net) → Sound net → (u v : ℕ) (ls : List Link) → (
 tail-node net sound u v [] other p = absurd (other p)
 tail-node net sound u v (l ∷ ls) other p = subst (λ n. n < net .nodes) (p .1) (sound .each (p .0 .0) l (p .0 .1) .tail)
 
--- where a link ends, if n is the number of nodes
-pub head-node : (net : Net) → Sound net → (n : ℕ) → n ≡ net .nodes → (p : ℕ) (l : Link) → link-at net p ≡ Some l → l .head < n
-head-node net sound n same p l at = subst (λ m. l .head < m) (sym same) (sound .each p l at .head)
+-- the same of the links, where n is the number of nodes
+pub link-sound : (net : Net) → Sound net → (n : ℕ) → n ≡ net .nodes → (p : ℕ) (l : Link) → link-at net p ≡ Some l → Sound-link n l
+link-sound net sound n same p l at = subst (λ m. Sound-link m l) (sym same) (sound .each p l at)
+
+pub held-sound : (net : Net) → Sound net → (n : ℕ) → n ≡ net .nodes → (p : ℕ) (l : Link) → Some l ≡ link-at net p → Sound-link n l
+held-sound net sound n same p l e = link-sound net sound n same p l (sym e)
+
+pub few-nodes : (net : Net) → Sound net → (n : ℕ) → n ≡ net .nodes → n ≤ 64
+few-nodes net sound n same = subst (λ m. m ≤ 64) (sym same) (sound .nodes-high)

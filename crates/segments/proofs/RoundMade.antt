@@ -9,11 +9,13 @@ use lib.ListN.{getD}
 use Rattle.std.proofs.shelf.Tests.{cases-eq, cases-lt}
 use Rattle.std.specs.declared.option.Option.the-variants.{Some, None}
 use Rattle.netmap.specs.declared.link.Link.{Link}
-use Rattle.netmap.specs.Net.{Net, link-at, places}
-use Rattle.segments.specs.Distances.{LeastOf, cell, table-of, Known, AllKnown, Same}
+use Rattle.netmap.specs.Net.{Net, Sound, link-at, places}
+use Rattle.segments.specs.declared.figures.Spread.{Spread}
+use Rattle.segments.specs.Distances.{LeastOf, cell, table-of, Known, AllKnown, Same, delays}
 use Rattle.segments.specs.Relaxations.{TriedTo, Round, nearer, Swept}
 use Rattle.segments.proofs.DistanceSlots.{cell-some}
 use Rattle.segments.proofs.LinkSwept.{nearer-far, nearer-less, nearer-more}
+use Rattle.segments.proofs.NodesReached.{held-sound}
 use Rattle.segments.proofs.OptionValues.{none-some}
 use Rattle.segments.proofs.PlaceTried.{Small, try-none, try-other, try-far, try-less, try-more, tried-all, tried-first}
 
@@ -33,13 +35,13 @@ module _ (net : Net) (n : ℕ) (old : List ℕ) (known : AllKnown n old) where
   round-all new p past r u v nu nv = tried-all net (table-of n old) p u v (table-of n new u v) past (r .least u v nu nv)
 
   module _ (new : List ℕ) (p : ℕ) (r : RoundTo net n old new p) where
-    pub round-none : None ≡ link-at net p → RoundTo net n old new (p + 1)
+    round-none : None ≡ link-at net p → RoundTo net n old new (p + 1)
     round-none e = record {
       least = λ u v nu nv. try-none net (table-of n old) p u v (table-of n new u v) (λ w x k. none-some (link-at net p) (x .link) (sym e) (subst (λ q. link-at net q ≡ Some (x .link)) k (x .holds .1))) (r .least u v nu nv);
       small = r .small;
     }
 
-    pub round-one : (l : Link) (after : List ℕ) → link-at net p ≡ Some l → l .head < n → l .weight ≤ 65535 → Swept n l old new after → RoundTo net n old after (p + 1)
+    round-one : (l : Link) (after : List ℕ) → link-at net p ≡ Some l → l .head < n → l .weight ≤ 65535 → Swept n l old new after → RoundTo net n old after (p + 1)
     round-one l after at nh light s = record { least = λ u v nu nv. both u v nu nv .0; small = λ u v nu nv. both u v nu nv .1 }
       where
         tried : (u v best rest : ℕ) → l .tail ≡ u → getD old (l .head * n + v) 0 ≡ rest → Known rest → LeastOf (TriedTo net (table-of n old) p u v) (cell best) → Small best
@@ -70,3 +72,13 @@ module _ (net : Net) (n : ℕ) (old : List ℕ) (known : AllKnown n old) where
             subst (λ w. LeastOf (TriedTo net (table-of n old) (p + 1) u v) (cell w) × Small w) (sym (s .others u v nv ne))
             (try-other net (table-of n old) p u v l at (table-of n new u v) (λ z. ne (sym z)) (r .least u v nu nv), r .small u v nu nv))
             (cases-eq u (l .tail))
+
+  -- the same of the slots of the second working slice
+  module _ {V : Type 0} (xs ys : List (Spread V)) (p : ℕ) (r : RoundTo net n old (delays xs) p) where
+    pub place-empty : ys ≡ xs → None ≡ link-at net p → RoundTo net n old (delays ys) (p + 1)
+    place-empty e none = subst (λ zs. RoundTo net n old (delays zs) (p + 1)) (sym e) (round-none (delays xs) p r none)
+
+    pub place-filled : Sound net → n ≡ net .nodes → (l : Link) (zs : List (Spread V)) → ys ≡ zs → Some l ≡ link-at net p → Swept n l old (delays xs) (delays zs) → RoundTo net n old (delays ys) (p + 1)
+    place-filled sound same l zs e at s =
+        let k = held-sound net sound n same p l at in
+        subst (λ ws. RoundTo net n old (delays ws) (p + 1)) (sym e) (round-one (delays xs) p r l (delays zs) (sym at) (k .head) (k .weight-high) s)

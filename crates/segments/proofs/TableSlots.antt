@@ -1,5 +1,5 @@
 -- Slots of a slice that are written one by one, and slots by row and column.
-use mathlib.Core.Path.{_≡_, sym, ap, subst}
+use mathlib.Core.Path.{_≡_, sym, ap, _∙_, subst}
 use mathlib.Core.List.{List}
 use mathlib.Core.Logic.{⊎-elim}
 use Prim.Native.Nat.{ℕ, _+_, _*_, _/_, _%_, _≤_, _<_}
@@ -11,10 +11,11 @@ use lib.Seq.{getD-set-same, getD-set-other}
 use Rattle.std.proofs.shelf.Lists.{length-map, getD-map, map-set, getD-read}
 use Rattle.std.proofs.shelf.Bits.{div-add-mod', div-below, mod-below}
 use Rattle.std.proofs.shelf.Tests.{cases-lt}
+use Rattle.netmap.specs.declared.link.Link.{Link}
 use Rattle.segments.specs.declared.figures.Spread.{Spread}
 use Rattle.segments.specs.Algebra.{Algebra}
 use Rattle.segments.specs.Distances.{delays}
-use Rattle.segments.specs.Spreads.{slot}
+use Rattle.segments.specs.Spreads.{slot, onward}
 
 -- one slot more is written
 pub set-more : {X : Type 0} (P : ℕ → X → Type 0) (d x : X) (xs : List X) (i : ℕ) → i < length xs → ((k : ℕ) → k < i → P k (getD xs k d)) → P i x → (k : ℕ) → k < i + 1 → P k (getD (set xs i x) k d)
@@ -62,3 +63,6 @@ by-pair n P f u v nu nv =
 
 pub slot-read : {V : Type 0} (alg : Algebra V) (xs : List (Spread V)) (i : ℕ) (s : Spread V) → i < length xs → s ≡ getD xs i s → slot alg xs i ≡ s
 slot-read alg xs i s h e = sym (getD-read xs i s h e _)
+
+pub onward-is : {V : Type 0} (alg : Algebra V) (xs : List (Spread V)) (i : ℕ) (l : Link) (s : Spread V) (x : V) → slot alg xs i ≡ s → x ≡ alg .join (alg .of-link l) (s .value) → record { delay = record { 0 = l .delay .0 + s .delay .0 }; value = x } ≡ onward alg xs i l
+onward-is alg xs i l s x e q = λ j. record { delay = record { 0 = l .delay .0 + sym e j .delay .0 }; value = (q ∙ ap (λ t. alg .join (alg .of-link l) (t .value)) (sym e)) j }

@@ -13,7 +13,7 @@ use Rattle.segments.specs.Paths.{IsPath, Tight}
 use Rattle.segments.specs.Spreads.{TightAt}
 use Rattle.segments.proofs.DistanceSlots.{cell-some, rest-small, cell-is, cell-none}
 use Rattle.segments.proofs.ExactDistances.{exact-known, path-far}
-use Rattle.segments.proofs.NodesReached.{head-node}
+use Rattle.segments.proofs.NodesReached.{link-sound}
 use Rattle.segments.proofs.OptionValues.{some-same, none-some}
 use Rattle.segments.proofs.TightLinks.{tight-test, tight-nearer}
 
@@ -29,13 +29,13 @@ module _ (net : Net) (sound : Sound net) (n : ℕ) (xs : List ℕ) (m : Measured
       pub tight-rest : getD xs (l .head * n + v) 0 ≡ 4294967295 → TightAt net u v p None
       tight-rest e k here t =
           let s = some-same (link-at net p) k l here at in
-          let f = path-far net sound n xs m (l .head) v (t .rest) (head-node net sound n (m .nodes) p l at) nv (subst (λ j. IsPath net (j .head) (t .rest) v) s (t .best .path .2)) in
+          let f = path-far net sound n xs m (l .head) v (t .rest) (link-sound net sound n (m .nodes) p l at .head) nv (subst (λ j. IsPath net (j .head) (t .rest) v) s (t .best .path .2)) in
           none-some (table-of n xs (l .head) v) (f .0) (cell-none _ e) (f .1)
 
       pub tight-sum : (l .weight + getD xs (l .head * n + v) 0 ≡ getD xs (u * n + v) 0 → ⊥) → TightAt net u v p None
       tight-sum ne k here k-tight =
           let t : Tight net u v l = subst (Tight net u v) (some-same (link-at net p) k l here at) k-tight in
-          let f = path-far net sound n xs m (l .head) v (t .rest) (head-node net sound n (m .nodes) p l at) nv (t .best .path .2) in
+          let f = path-far net sound n xs m (l .head) v (t .rest) (link-sound net sound n (m .nodes) p l at .head) nv (t .best .path .2) in
           let d = path-far net sound n xs m u v (l ∷ t .rest) nu nv (t .best .path) in
           let q = tight-nearer net sound u v l (d .0) (f .0) t (d .2) (f .2) in
           ne (ap (λ k. l .weight + k) (cell-is _ (f .0) (f .1)) ∙ q .0 ∙ sym (cell-is _ (d .0) (d .1)))
@@ -44,6 +44,6 @@ module _ (net : Net) (sound : Sound net) (n : ℕ) (xs : List ℕ) (m : Measured
       tight-yes tail ne sum =
           let y = getD xs (l .head * n + v) 0 in
           let w = getD xs (u * n + v) 0 in
-          let small = rest-small y (exact-known net sound n xs m (l .head * n + v) (digits-lt (head-node net sound n (m .nodes) p l at) nv)) ne in
+          let small = rest-small y (exact-known net sound n xs m (l .head * n + v) (digits-lt (link-sound net sound n (m .nodes) p l at .head) nv)) ne in
           let light = sound .each p l at .weight-high in
-          tight-test net u v l w y (p, at) tail (subst (LeastOf (Far net u v)) (cell-some w (omega arith)) (m .exact u v nu nv)) (subst (LeastOf (Far net (l .head) v)) (cell-some y (omega arith)) (m .exact (l .head) v (head-node net sound n (m .nodes) p l at) nv)) sum
+          tight-test net u v l w y (p, at) tail (subst (LeastOf (Far net u v)) (cell-some w (omega arith)) (m .exact u v nu nv)) (subst (LeastOf (Far net (l .head) v)) (cell-some y (omega arith)) (m .exact (l .head) v (link-sound net sound n (m .nodes) p l at .head) nv)) sum

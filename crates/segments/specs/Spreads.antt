@@ -40,6 +40,13 @@ module _ {V : Type 0} where
   worse-of alg None b = b
   worse-of alg (Some a) b = record { delay = record { 0 = max (a .delay .0) (b .delay .0) }; value = cond (alg .as-good (a .value) (b .value)) (b .value) (a .value) }
 
+  -- along a link, and then what stands in a slot
+  abbrev pub onward : Algebra V → List (Spread V) → ℕ → Link → Spread V
+  onward alg xs i l = record {
+    delay = record { 0 = l .delay .0 + slot alg xs i .delay .0 };
+    value = alg .join (alg .of-link l) (slot alg xs i .value);
+  }
+
   -- the slot of u and v among n * n has the figures of all best paths
   abbrev pub HasFigures : Net → Algebra V → ℕ → List (Spread V) → ℕ → ℕ → Type 0
   HasFigures net alg n xs u v = Ecmp net alg u v (slot alg xs (u * n + v) .delay .0) (slot alg xs (u * n + v) .value)

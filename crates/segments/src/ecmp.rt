@@ -7,7 +7,7 @@ ghost use Rattle.netmap.specs.declared.link.Link.{Link as NetLink};
 ghost use Rattle.segments.specs.Algebra.{algebra};
 ghost use Rattle.segments.specs.Distances.{LeastOf, Measured};
 ghost use Rattle.segments.specs.Paths.{IsPath, Tight, Ecmp};
-ghost use Rattle.segments.specs.Spreads.{TightAt, HasFigures, Figured, Keyed, Spared, worse-of as worseOf, lesser-of as lesserOf};
+ghost use Rattle.segments.specs.Spreads.{TightAt, HasFigures, Figured, Keyed, Spared, onward, slot as slotAt, worse-of as worseOf, lesser-of as lesserOf};
 use crate::figures::Spread;
 use crate::figures::note;
 use crate::links::held;
@@ -57,7 +57,21 @@ fn worse<V: Tariff>(one: Option<Spread<V>>, other: Spread<V>) -> Spread<V>
     }
 }
 
-// The figures from u to another node v, from those at the heads of the links that begin a best path.
+// Along a link, and then what stands in a slot.
+fn go_on<V: Tariff>(link: Link, spread: &[Spread<V>], slot: usize) -> Spread<V>
+    requires within { ⌜ slot < length (now spread) ⌝ }
+    requires own { ⌜ link .delay .0 ≤ 100000 ⌝ }
+    requires rest { ⌜ slotAt (algebra (V·Ranking .good) (V·Tariff .joining)) (now spread) slot .delay .0 ≤ 6300000 ⌝ }
+    ensures { λ r. ⌜ r ≡ onward (algebra (V·Ranking .good) (V·Tariff .joining)) (now (spread .entry)) slot link ⌝ }
+{
+    let rest = spread[slot];
+    Spread {
+        delay: Microseconds(link.delay.0 + rest.delay.0),
+        value: V::of_link(link).join(rest.value),
+    }
+}
+
+// The figures from u to another node v, over the links that begin a best path.
 fn gather<M: Map, V: Tariff>(
     map: &M,
     n: usize,
@@ -78,10 +92,8 @@ fn gather<M: Map, V: Tariff>(
     let mut found: Option<Spread<V>> = None;
     for p in 0..map.places() {
         if let Some(link) = tight(map, n, dist, u, v, p) {
-            let rest = spread[link.head as usize * n + v];
-            let delay = Microseconds(link.delay.0 + rest.delay.0);
-            let value = V::of_link(link).join(rest.value);
-            found = Some(worse(found, Spread { delay, value }));
+            let rest = link.head as usize * n + v;
+            found = Some(worse(found, go_on(link, spread, rest)));
         }
     }
     match found {

@@ -1,25 +1,18 @@
-use mathlib.Core.Path.{sym, _∙_, subst}
-use mathlib.Core.List.{List}
-use Prim.Native.Nat.{ℕ, _+_, _*_, _≤_, _<_}
+use mathlib.Core.Path.{refl, sym, _∙_, subst}
+use Prim.Native.Nat.{_+_, _*_, _≤_, _<_}
 use native.Mathlib.Nat.{lt-of-lt-of-le}
-use native.Mathlib.Omega.{arith}
 use borrow.Author.Needs.{needs}
 use lib.Arith.{digits-lt}
 use lib.ListN.{length, getD}
-use Rattle.segments.specs.declared.figures.Spread.{Spread}
 use Rattle.segments.specs.Distances.{delays}
 use Rattle.segments.proofs.DistanceSlots.{rest-small}
-use Rattle.segments.proofs.LinkSwept.{SweptTo, swept-keep, swept-take, nearer-far, nearer-less, nearer-more}
+use Rattle.segments.proofs.LinkSwept.{swept-far, swept-more, swept-less}
 use Rattle.segments.proofs.NumbersFit.{fits-sum}
-use Rattle.segments.proofs.TableSlots.{delays-length, delays-set}
 use Rattle.segments.proofs.distances.sweep.Needs as need
 use Rattle.segments.proofs.distances.sweep.Needs.{then-rest·then-sum-best, then-rest·else-sum-best, else-rest}
 
 pub index-dist-link : need.index-dist-link
 index-dist-link g c = lt-of-lt-of-le (digits-lt (c .pre .head) (c .loop-v-test .taken)) (c .pre .sized)
-
-light : (w : ℕ) → w < 65536 → w ≤ 65535
-light w h = omega arith
 
 pub add-sum : need.add-sum
 add-sum g c =
@@ -40,20 +33,12 @@ loop-v-again g c =
     let new = delays (c .args .spread .now) in
     let v = c .loop-v .v in
     let xs = c .loop-v .spread in
+    let ys = c .if-rest .spread in
     let nv = c .loop-v-test .taken in
-    let i = l .tail * n + v in
     let rest = getD old (l .head * n + v) 0 in
-    let best = getD (delays xs) i 0 in
-    let wide : i < length xs = lt-of-lt-of-le (digits-lt (c .pre .tail) nv) (subst (λ m. n * n ≤ m) (sym (c .loop-v .kept .spread)) (c .pre .space)) in
+    let wide : l .tail * n + v < length xs = lt-of-lt-of-le (digits-lt (c .pre .tail) nv) (subst (λ m. n * n ≤ m) (sym (c .loop-v .kept .spread)) (c .pre .space)) in
     elim (c .if-rest .came) [
-      | then-rest·then-sum-best w ↦
-          subst (λ (ys : List (Spread (g .V .Denot))). SweptTo n l old new (delays ys) (v + 1)) (sym (w .spread-is ∙ w .note .ensures))
-          (subst (λ ys. SweptTo n l old new ys (v + 1)) (sym (delays-set xs i (record { delay = record { 0 = l .weight + rest }; value = w .neutral .result })))
-          (swept-take n l old new v (delays xs) nv (c .loop-v .inv) (l .weight + rest) (subst (λ m. i < m) (sym (delays-length xs)) wide) (nearer-less best (l .weight) rest (w .if-rest .taken) (subst (λ m. l .weight + rest < m) (w .delay-at-best .ensures) (w .if-sum-best .taken)))))
-      | then-rest·else-sum-best w ↦
-          subst (λ (ys : List (Spread (g .V .Denot))). SweptTo n l old new (delays ys) (v + 1)) (sym (w .spread-is))
-          (swept-keep n l old new v (delays xs) nv (c .loop-v .inv) (nearer-more best (l .weight) rest (w .if-rest .taken) (subst (λ m. m ≤ l .weight + rest) (w .delay-at-best .ensures) (w .if-sum-best .left))))
-      | else-rest w ↦
-          subst (λ (ys : List (Spread (g .V .Denot))). SweptTo n l old new (delays ys) (v + 1)) (sym (w .spread-is))
-          (swept-keep n l old new v (delays xs) nv (c .loop-v .inv) (nearer-far best (l .weight) rest (w .if-rest .left)))
+      | then-rest·then-sum-best w ↦ swept-less n l old new v xs ys nv (c .loop-v .inv) (w .delay-at-best .result) (w .delay-at-best .ensures) (w .if-rest .taken) (record { delay = record { 0 = l .weight + rest }; value = w .neutral .result }) (w .spread-is ∙ w .note .ensures) refl wide (w .if-sum-best .taken)
+      | then-rest·else-sum-best w ↦ swept-more n l old new v xs ys nv (c .loop-v .inv) (w .delay-at-best .result) (w .delay-at-best .ensures) (w .if-rest .taken) (w .spread-is) (w .if-sum-best .left)
+      | else-rest w ↦ swept-far n l old new v xs ys nv (c .loop-v .inv) (w .spread-is) (w .if-rest .left)
     ]

@@ -5,7 +5,7 @@ use lib.Arith.{digits-lt}
 use lib.ListN.{getD}
 use Rattle.segments.proofs.DistanceSlots.{rest-small}
 use Rattle.segments.proofs.ExactDistances.{exact-known}
-use Rattle.segments.proofs.NodesReached.{head-node}
+use Rattle.segments.proofs.NodesReached.{link-sound}
 use Rattle.segments.proofs.NumbersFit.{fits-sum}
 use Rattle.segments.proofs.TightTest.{tight-rest, tight-sum, tight-yes}
 use Rattle.segments.proofs.ecmp.tight.Needs as need
@@ -14,7 +14,7 @@ pub index-dist-link : need.index-dist-link
 index-dist-link g c =
     let net = g .M·Map .meaning (c .args .map .now) in
     let sound = g .M·Map .sound (c .args .map .now) in
-    let h = head-node net sound (c .args .n) (c .pre .measured .nodes) (c .args .place) (c .in-Some .link) (sym (c .in-Some .ensures tt)) in
+    let h = link-sound net sound (c .args .n) (c .pre .measured .nodes) (c .args .place) (c .in-Some .link) (sym (c .in-Some .ensures tt)) .head in
     lt-of-lt-of-le (digits-lt h (c .pre .to)) (c .pre .measured .sized)
 
 pub index-dist-u : need.index-dist-u
@@ -27,7 +27,7 @@ add-link g c =
     let l = c .in-Some .link in
     let at = sym (c .in-Some .ensures tt) in
     let i = l .head * c .args .n + c .args .v in
-    let h = head-node net sound (c .args .n) (c .pre .measured .nodes) (c .args .place) l at in
+    let h = link-sound net sound (c .args .n) (c .pre .measured .nodes) (c .args .place) l at .head in
     let k = exact-known net sound (c .args .n) (c .args .dist .now) (c .pre .measured) i (digits-lt h (c .pre .to)) in
     fits-sum (l .weight) (getD (c .args .dist .now) i 0) (sound .each (c .args .place) l at .weight-high) (rest-small (getD (c .args .dist .now) i 0) k (c .if-rest .left))
 
