@@ -1,4 +1,4 @@
--- Figures of all best paths exist exactly where a path does.
+-- Figures of all best paths exist exactly where a path does, and so node codes are legal there.
 use mathlib.Core.Path.{_≡_, refl, sym, _∙_, subst}
 use mathlib.Core.List.{List}
 use mathlib.Core.Logic.{_⊎_, inl, inr, ⊎-elim}
@@ -9,7 +9,7 @@ use Rattle.netmap.specs.declared.link.Link.{Link}
 use Rattle.netmap.specs.Net.{Net, Sound}
 use Rattle.segments.specs.Algebra.{Algebra, AsGood, Laws}
 use Rattle.segments.specs.Paths.{IsPath, total-weight, total-delay, path-value, IsBest, Ecmp}
-use Rattle.segments.specs.Theorems.{Figures-where-paths}
+use Rattle.segments.specs.Theorems.{Figures-where-paths, Node-codes-where-paths}
 use Rattle.segments.proofs.EcmpFromHeads.{ecmp-self}
 use Rattle.segments.proofs.NodesReached.{tail-node}
 use Rattle.segments.proofs.ShortPathExtremes.{Preorder, HasFirst, ShortPath, short-first}
@@ -86,4 +86,12 @@ module _ {V : Type 0} (alg : Algebra V) (lawful : Laws alg) where
         (total-delay (d .0), path-value alg (x .0), record { delay-met = (d .0, d .1, refl); delay-largest = d .2; value-met = (x .0, x .1, refl); value-worst = x .2 }))
         (cases-eq u v);
     of-figures = λ d x e. (e .delay-met .0, e .delay-met .1 .path);
+  }
+
+  pub node-codes-where-paths : Node-codes-where-paths alg
+  node-codes-where-paths net sound u c = record {
+    of-path = λ range other ls p.
+        let f = figures-where-paths net sound u c .of-path ls p in
+        (record { to = c; delay = record { 0 = f .0 }; value = f .1 }, record { range = range; other = other; to = refl; spread = f .2 });
+    of-segment = λ h s. (s .range, s .other, (s .spread .delay-met .0, s .spread .delay-met .1 .path));
   }

@@ -64,5 +64,8 @@ by-pair n P f u v nu nv =
 pub slot-read : {V : Type 0} (alg : Algebra V) (xs : List (Spread V)) (i : ℕ) (s : Spread V) → i < length xs → s ≡ getD xs i s → slot alg xs i ≡ s
 slot-read alg xs i s h e = sym (getD-read xs i s h e _)
 
-pub onward-is : {V : Type 0} (alg : Algebra V) (xs : List (Spread V)) (i : ℕ) (l : Link) (s : Spread V) (x : V) → slot alg xs i ≡ s → x ≡ alg .join (alg .of-link l) (s .value) → record { delay = record { 0 = l .delay .0 + s .delay .0 }; value = x } ≡ onward alg xs i l
-onward-is alg xs i l s x e q = λ j. record { delay = record { 0 = l .delay .0 + sym e j .delay .0 }; value = (q ∙ ap (λ t. alg .join (alg .of-link l) (t .value)) (sym e)) j }
+pub onward-is : {V : Type 0} (alg : Algebra V) (xs : List (Spread V)) (i : ℕ) (l : Link) (s : Spread V) (x y : V) → slot alg xs i ≡ s → y ≡ alg .of-link l → x ≡ alg .join y (s .value) → record { delay = record { 0 = l .delay .0 + s .delay .0 }; value = x } ≡ onward alg xs i l
+onward-is alg xs i l s x y e f q = λ j. record {
+  delay = record { 0 = l .delay .0 + sym e j .delay .0 };
+  value = (q ∙ (λ k. alg .join (f k) (sym e k .value))) j;
+}

@@ -2,7 +2,7 @@
 use mathlib.Core.Path.{_≡_}
 use mathlib.Core.List.{List}
 use mathlib.Core.Logic.{_⊎_}
-use Prim.Native.Nat.{ℕ, _-_, _≤_}
+use Prim.Native.Nat.{ℕ, _-_, _≤_, _<_}
 use lib.ListN.{length}
 use Rattle.netmap.specs.declared.link.Link.{Link}
 use Rattle.netmap.specs.Net.{Net, Sound}
@@ -13,7 +13,7 @@ use Rattle.segments.specs.declared.order.Order.{Order}
 use Rattle.segments.specs.Algebra.{Algebra, algebra}
 use Rattle.segments.specs.Orders.{Precedes, First}
 use Rattle.segments.specs.Paths.{IsPath, IsBest, Ecmp}
-use Rattle.segments.specs.Segments.{Segment, SegmentList, list-value}
+use Rattle.segments.specs.Segments.{NodeSegment, Segment, SegmentList, list-value}
 
 module _ {V : Type 0} (alg : Algebra V) where
   -- a code does at most one thing at a node
@@ -45,6 +45,14 @@ module _ {V : Type 0} (alg : Algebra V) where
   -- figures are where a path is, and nowhere else
   abbrev pub Figures-where-paths : Type 0
   Figures-where-paths = (net : Net) → Sound net → (u v : ℕ) → FiguresExist net u v
+
+  -- a code of a node is legal at every other node from which there is a path, and nowhere else
+  pub record NodeCodeLegal (net : Net) (u c : ℕ) : Type 0 where
+    pub of-path : c < 64 → (u ≡ c → ⊥) → (ls : List Link) → IsPath net u ls c → (h : Hop V) × NodeSegment net alg u c h
+    pub of-segment : (h : Hop V) → NodeSegment net alg u c h → (c < 64) × (u ≡ c → ⊥) × ((ls : List Link) × IsPath net u ls c)
+
+  abbrev pub Node-codes-where-paths : Type 0
+  Node-codes-where-paths = (net : Net) → Sound net → (u c : ℕ) → NodeCodeLegal net u c
 
 -- a best path has fewer links than the network has nodes
 abbrev pub Best-paths-short : Type 0

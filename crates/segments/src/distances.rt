@@ -13,6 +13,9 @@ use netmap::Map;
 use netmap::Microseconds;
 use tariff::Tariff;
 
+// Stands in a slot where there is no path.
+pub(crate) const NO_PATH: u32 = u32::MAX;
+
 // Before the first round: 0 from each node to itself.
 fn start(n: usize, dist: &mut [u32])
     requires nodes { ⌜ n ≤ 64 ⌝ }
@@ -20,7 +23,7 @@ fn start(n: usize, dist: &mut [u32])
     ensures { λ _. ⌜ ((i : ℕ) → i < n * n → getD (now (dist .exit)) i 0 ≡ firstSlot n i) ⌝ }
 {
     for i in 0..n * n {
-        dist[i] = if i / n == i % n { 0 } else { u32::MAX };
+        dist[i] = if i / n == i % n { 0 } else { NO_PATH };
     }
 }
 
@@ -59,7 +62,7 @@ fn sweep<V: Tariff>(n: usize, dist: &[u32], spread: &mut [Spread<V>], link: Link
     let row = link.tail as usize * n;
     for v in 0..n {
         let rest = dist[link.head as usize * n + v];
-        if rest != u32::MAX {
+        if rest != NO_PATH {
             let sum = link.weight as u32 + rest;
             let best = delay_at(spread, row + v);
             if sum < best {

@@ -8,6 +8,7 @@ ghost use Rattle.segments.specs.Algebra.{algebra};
 ghost use Rattle.segments.specs.Distances.{LeastOf, Measured};
 ghost use Rattle.segments.specs.Paths.{IsPath, Tight, Ecmp};
 ghost use Rattle.segments.specs.Spreads.{TightAt, HasFigures, Figured, Keyed, Spared, onward, slot as slotAt, worse-of as worseOf, lesser-of as lesserOf};
+use crate::distances::NO_PATH;
 use crate::figures::Spread;
 use crate::figures::note;
 use crate::links::held;
@@ -30,7 +31,7 @@ fn tight<M: Map>(map: &M, n: usize, dist: &[u32], u: usize, v: usize, place: usi
         return None;
     }
     let rest = dist[link.head as usize * n + v];
-    if rest == u32::MAX {
+    if rest == NO_PATH {
         return None;
     }
     if link.weight as u32 + rest == dist[u * n + v] {
@@ -148,7 +149,7 @@ fn next(n: usize, dist: &[u32], v: usize, bar: usize) -> Option<usize>
     let mut least: Option<usize> = None;
     for u in 0..n {
         let far = dist[u * n + v];
-        if far != u32::MAX {
+        if far != NO_PATH {
             let key = far as usize * n + u;
             if key >= bar {
                 least = Some(lesser(least, key));

@@ -5,6 +5,7 @@ ghost use lib.ListN.{length};
 ghost use Rattle.segments.specs.Algebra.{algebra};
 ghost use Rattle.segments.specs.Entries.{Entry, Leaves, NodeHop, LinkHop};
 ghost use Rattle.segments.specs.Spreads.{Routed};
+use crate::distances::NO_PATH;
 use crate::figures::Hop;
 use crate::figures::Spread;
 use crate::links::held;
@@ -18,7 +19,7 @@ fn node_hop<V: Tariff>(dist: &[u32], spread: &[Spread<V>], slot: usize, code: u1
     requires small { ⌜ code < 64 ⌝ }
     ensures { λ r. ⌜ NodeHop (algebra (V·Ranking .good) (V·Tariff .joining)) (now (dist .entry)) (now (spread .entry)) slot code r ⌝ }
 {
-    if dist[slot] == u32::MAX {
+    if dist[slot] == NO_PATH {
         return None;
     }
     let figures = spread[slot];

@@ -1,6 +1,6 @@
 // What holds of segment lists, of their precedence and of best paths, for every tariff unless one is named.
 ghost use Rattle.segments.specs.Algebra.{algebra};
-ghost use Rattle.segments.specs.Theorems.{Lists-functional, Precedence-strict, First-unique, Figures-where-paths, Best-paths-short, Costs-bounded};
+ghost use Rattle.segments.specs.Theorems.{Lists-functional, Precedence-strict, First-unique, Figures-where-paths, Node-codes-where-paths, Best-paths-short, Costs-bounded};
 use tariff::Tariff;
 
 // A list has one end and one set of figures.
@@ -27,6 +27,13 @@ pub fn first_list_is_unique<V: Tariff>() -> u8
 // The figures of a node code exist exactly where a path does.
 pub fn figures_are_where_paths_are<V: Tariff>() -> u8
     ensures { λ _. ⌜ Figures-where-paths (algebra (V·Ranking .good) (V·Tariff .joining)) ⌝ }
+{
+    0
+}
+
+// A node code is legal at every other node from which there is a path, and nowhere else.
+pub fn node_codes_are_where_paths_are<V: Tariff>() -> u8
+    ensures { λ _. ⌜ Node-codes-where-paths (algebra (V·Ranking .good) (V·Tariff .joining)) ⌝ }
 {
     0
 }

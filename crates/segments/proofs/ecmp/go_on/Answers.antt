@@ -1,4 +1,4 @@
-use mathlib.Core.Path.{ap, _∙_, subst}
+use mathlib.Core.Path.{subst}
 use Prim.Native.Nat.{_≤_}
 use Rattle.segments.specs.Algebra.{algebra}
 use Rattle.segments.proofs.NumbersFit.{fits-delay}
@@ -16,6 +16,5 @@ pub returns : need.returns
 returns g c =
     let alg = algebra (g .V·Ranking .good) (g .V·Tariff .joining) in
     let r = c .index-spread-slot .result in
-    onward-is alg (c .args .spread .now) (c .args .slot) (c .args .link) r (c .join .result)
-    (slot-read alg (c .args .spread .now) (c .args .slot) r (c .pre .within) (c .index-spread-slot .is))
-    (c .join .ensures ∙ ap (λ x. alg .join x (r .value)) (c .of-link .ensures))
+    onward-is alg (c .args .spread .now) (c .args .slot) (c .args .link) r (c .join .result) (c .of-link .result)
+    (slot-read alg (c .args .spread .now) (c .args .slot) r (c .pre .within) (c .index-spread-slot .is)) (c .of-link .ensures) (c .join .ensures)
