@@ -16,8 +16,8 @@ use Rattle.netmap.specs.Net.{Net, Sound}
 use Rattle.segments.specs.declared.figures.Spread.{Spread}
 use Rattle.segments.specs.Algebra.{Algebra}
 use Rattle.segments.specs.Distances.{LeastOf, cell, table-of, Measured, Known}
-use Rattle.segments.specs.Paths.{IsPath, Tight, Ecmp}
-use Rattle.segments.specs.Spreads.{Keyed, slot, HasFigures, Figured, Spared}
+use Rattle.segments.specs.Paths.{IsPath, Reached, Ecmp}
+use Rattle.segments.specs.Spreads.{Keyed, slot, HasFigures, HeadsFigured, ColumnFigured, Figured, Spared}
 use Rattle.segments.proofs.DistanceSlots.{cell-is, cell-none}
 use Rattle.segments.proofs.ExactDistances.{exact-known, path-far, far-path}
 use Rattle.segments.proofs.NearestKeys.{key-below, key-at, key-is}
@@ -38,7 +38,7 @@ module _ (net : Net) (sound : Sound net) {n : ℕ} {dist : List ℕ} (m : Measur
       bound : (f n r : ℕ) → f ≤ 4128705 → n ≤ 64 → r < n → f * n + r ≡ key → key < 264237184
       bound f n r a b h e = omega (arith, mul-le f n 4128705 64 a b)
 
-  pub key-path : (ls : List Link) × IsPath net (key % n) ls v
+  pub key-path : Reached net (key % n) v
   key-path = let b = far-path net sound n dist m (key % n) v (k .far) (key-below k) nv (key-at k) in (b .0, b .1 .path)
 
 module _ {V : Type 0} (net : Net) (alg : Algebra V) (n : ℕ) (dist : List ℕ) (v : ℕ) where
@@ -53,7 +53,7 @@ module _ {V : Type 0} (net : Net) (alg : Algebra V) (n : ℕ) (dist : List ℕ) 
   filled-first xs u w nu e h = absurd (omega arith)
 
   module _ (sound : Sound net) (m : Measured net n dist) (nv : v < n) (bar : ℕ) (xs : List (Spread V)) (filled : FilledTo bar xs) where
-    pub filled-all : LeastOf (Keyed n dist v bar) None → (u : ℕ) (ls : List Link) → u < n → IsPath net u ls v → HasFigures net alg n xs u v
+    pub filled-all : LeastOf (Keyed n dist v bar) None → ColumnFigured net alg n xs v
     filled-all none u ls nu p =
         let f = path-far net sound n dist m u v ls nu nv p in
         ⊎-elim (λ (h : f .0 * n + u < bar). filled u (f .0) nu (f .1) h)
@@ -67,7 +67,7 @@ module _ {V : Type 0} (net : Net) (alg : Algebra V) (n : ℕ) (dist : List ℕ) 
           (λ (b : bar ≤ w * n + u). absurd (omega (arith, h, least .1 (w * n + u) (record { node = u; below = nu; far = w; at = e; is = refl; from = b }))))
           (cases-lt (w * n + u) bar)
 
-      pub key-heads : (l : Link) → Tight net (key % n) v l → HasFigures net alg n xs (l .head) v
+      pub key-heads : HeadsFigured net alg n xs (key % n) v
       key-heads l t =
           let u = key % n in
           let nh = link-sound net sound n (m .nodes) (t .best .path .0 .0) l (t .best .path .0 .1) .head in
@@ -107,7 +107,7 @@ module _ {V : Type 0} (net : Net) (alg : Algebra V) (n : ℕ) where
   abbrev pub ColumnsTo : ℕ → List (Spread V) → Type 0
   ColumnsTo m xs = (u v : ℕ) (ls : List Link) → u < n → v < m → IsPath net u ls v → HasFigures net alg n xs u v
 
-  pub columns-more : (v : ℕ) (xs ys : List (Spread V)) → v < n → ColumnsTo v xs → ((u : ℕ) (ls : List Link) → u < n → IsPath net u ls v → HasFigures net alg n ys u v) → Spared alg n v xs ys → ColumnsTo (v + 1) ys
+  pub columns-more : (v : ℕ) (xs ys : List (Spread V)) → v < n → ColumnsTo v xs → ColumnFigured net alg n ys v → Spared alg n v xs ys → ColumnsTo (v + 1) ys
   columns-more v xs ys nv old new spared u b ls nu h p = ⊎-elim
       (λ (e : b ≡ v). subst (λ m. HasFigures net alg n ys u m) (sym e) (new u ls nu (subst (λ m. IsPath net u ls m) e p)))
       (λ (ne : b ≡ v → ⊥). let k : b < v = below-last b v h ne in subst (λ (s : Spread V). Ecmp net alg u b (s .delay .0) (s .value)) (sym (spared u b (omega arith) ne)) (old u b ls nu k p))

@@ -15,7 +15,7 @@ use Rattle.netmap.specs.Net.{Net, Sound, link-at, places}
 use Rattle.segments.specs.declared.figures.Spread.{Spread}
 use Rattle.segments.specs.Algebra.{Algebra, AsGood, Laws}
 use Rattle.segments.specs.Paths.{IsBest, Tight, Ecmp}
-use Rattle.segments.specs.Spreads.{TightAt, slot, worse-of, onward, HasFigures}
+use Rattle.segments.specs.Spreads.{TightAt, slot, worse-of, onward, HeadsFigured}
 use Rattle.segments.proofs.EcmpFromHeads.{ecmp-step}
 use Rattle.segments.proofs.JoinedValues.{as-good-refl}
 use Rattle.segments.proofs.OptionValues.{some-same, none-some}
@@ -109,7 +109,7 @@ module _ {V : Type 0} (net : Net) (alg : Algebra V) (n : ℕ) (xs : List (Spread
     pub gathered-more : (p : ℕ) (o r : Option (Spread V)) (l : Link) (s w : Spread V) → TightAt net u v p (Some l) → s ≡ onward alg xs (l .head * n + v) l → w ≡ worse-of alg o s → r ≡ Some w → Gathered p o → Gathered (p + 1) r
     gathered-more p o r l s w t e f k g = subst (Gathered (p + 1)) (sym (k ∙ ap Some (f ∙ ap (worse-of alg o) e))) (gathered-one p o l t g)
 
-    pub gathered-all : (sound : Sound net) (p : ℕ) (s : Spread V) → (u ≡ v → ⊥) → places net ≤ p → ((l : Link) → Tight net u v l → HasFigures net alg n xs (l .head) v) → GatheredOf p s → Ecmp net alg u v (s .delay .0) (s .value)
+    pub gathered-all : (sound : Sound net) (p : ℕ) (s : Spread V) → (u ≡ v → ⊥) → places net ≤ p → HeadsFigured net alg n xs u v → GatheredOf p s → Ecmp net alg u v (s .delay .0) (s .value)
     gathered-all sound p s other past heads g =
         ecmp-step net alg lawful sound u v (s .delay .0) (s .value) other
         (λ l t. (slot alg xs (l .head * n + v) .delay .0, slot alg xs (l .head * n + v) .value, record { tight = t; ecmp = heads l t }))

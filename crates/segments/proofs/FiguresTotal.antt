@@ -77,12 +77,12 @@ module _ {V : Type 0} (alg : Algebra V) (lawful : Laws alg) where
 
   pub figures-where-paths : Figures-where-paths alg
   figures-where-paths net sound u v = record {
-    of-path = λ ls p. ⊎-elim
+    of-path = λ r. ⊎-elim
         (λ (e : u ≡ v). (0, alg .neutral, subst (λ w. Ecmp net alg u w 0 (alg .neutral)) e (ecmp-self net alg lawful sound u)))
         (λ (ne : u ≡ v → ⊥).
-        let nu = tail-node net sound u v ls ne p in
-        let d = first-best net sound (λ x y. total-delay y ≤ total-delay x) longer-order u v ls nu p in
-        let x = first-best net sound (λ x y. AsGood alg (path-value alg y) (path-value alg x)) worse-order u v ls nu p in
+        let nu = tail-node net sound u v (r .0) ne (r .1) in
+        let d = first-best net sound (λ x y. total-delay y ≤ total-delay x) longer-order u v (r .0) nu (r .1) in
+        let x = first-best net sound (λ x y. AsGood alg (path-value alg y) (path-value alg x)) worse-order u v (r .0) nu (r .1) in
         (total-delay (d .0), path-value alg (x .0), record { delay-met = (d .0, d .1, refl); delay-largest = d .2; value-met = (x .0, x .1, refl); value-worst = x .2 }))
         (cases-eq u v);
     of-figures = λ d x e. (e .delay-met .0, e .delay-met .1 .path);
@@ -90,8 +90,8 @@ module _ {V : Type 0} (alg : Algebra V) (lawful : Laws alg) where
 
   pub node-codes-where-paths : Node-codes-where-paths alg
   node-codes-where-paths net sound u c = record {
-    of-path = λ range other ls p.
-        let f = figures-where-paths net sound u c .of-path ls p in
+    of-path = λ range other r.
+        let f = figures-where-paths net sound u c .of-path r in
         (record { to = c; delay = record { 0 = f .0 }; value = f .1 }, record { range = range; other = other; to = refl; spread = f .2 });
     of-segment = λ h s. (s .range, s .other, (s .spread .delay-met .0, s .spread .delay-met .1 .path));
   }

@@ -79,8 +79,8 @@ module _ {V : Type 0} (n : ℕ) (l : Link) (old new : List ℕ) (v : ℕ) (xs ys
         subst (λ zs. SweptTo n l old new (delays zs) (v + 1)) (sym e)
         (swept-keep n l old new v (delays xs) nv s (nearer-more (getD (delays xs) (l .tail * n + v) 0) (l .weight) (getD old (l .head * n + v) 0) near (subst (λ m. m ≤ l .weight + getD old (l .head * n + v) 0) is h)))
 
-    pub swept-less : (x : Spread V) → ys ≡ set xs (l .tail * n + v) x → x .delay .0 ≡ l .weight + getD old (l .head * n + v) 0 → l .tail * n + v < length xs → l .weight + getD old (l .head * n + v) 0 < best → SweptTo n l old new (delays ys) (v + 1)
-    swept-less x e sum within h =
-        subst (λ zs. SweptTo n l old new zs (v + 1)) (sym (ap delays e ∙ delays-set xs (l .tail * n + v) x))
+    pub swept-less : (x : Spread V) (zs : List (Spread V)) → ys ≡ zs → zs ≡ set xs (l .tail * n + v) x → x .delay .0 ≡ l .weight + getD old (l .head * n + v) 0 → l .tail * n + v < length xs → l .weight + getD old (l .head * n + v) 0 < best → SweptTo n l old new (delays ys) (v + 1)
+    swept-less x zs e f sum within h =
+        subst (λ ws. SweptTo n l old new ws (v + 1)) (sym (ap delays (e ∙ f) ∙ delays-set xs (l .tail * n + v) x))
         (swept-take n l old new v (delays xs) nv s (x .delay .0) (subst (λ m. l .tail * n + v < m) (sym (delays-length xs)) within)
         (sum ∙ nearer-less (getD (delays xs) (l .tail * n + v) 0) (l .weight) (getD old (l .head * n + v) 0) near (subst (λ m. l .weight + getD old (l .head * n + v) 0 < m) is h)))

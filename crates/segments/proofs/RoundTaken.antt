@@ -1,5 +1,5 @@
 -- A round is taken over slot by slot, and whether it changes anything is seen.
-use mathlib.Core.Path.{_≡_, sym, _∙_}
+use mathlib.Core.Path.{_≡_, sym, _∙_, subst}
 use mathlib.Core.Bool.{Bool, true, false}
 use mathlib.Core.List.{List}
 use Prim.Native.Nat.{ℕ, _+_, _≤_, _<_}
@@ -19,19 +19,21 @@ Taking i before xs ys any =
     × (any ≡ true → Same i before ys → ⊥)
     × (any ≡ false → Same i before ys)
 
-module _ (i : ℕ) (before xs ys : List ℕ) (any : Bool) (t : Taking i before xs ys any) where
-  pub taking-new : (y : ℕ) → i < length xs → getD ys i 0 ≡ y → (getD xs i 0 ≡ y → ⊥) → Taking (i + 1) before (set xs i y) ys true
-  taking-new y h is ne = (
-    set-more (λ k x. x ≡ getD ys k 0) 0 y xs i h (t .0) (sym is),
-    (λ k g. getD-set-other xs i k y 0 (λ e. omega (arith, e, g)) ∙ t .1 k (omega arith)),
-    (λ _ same. ne (t .1 i (omega arith) ∙ same i (omega arith) ∙ is)),
-    (λ e. absurd (true≢false e)),
-  )
+module _ (i : ℕ) (before xs ys : List ℕ) (any : Bool) (t : Taking i before xs ys any) (zs : List ℕ) (b : Bool) (y : ℕ) (is : y ≡ getD ys i 0) where
+  pub taking-new : zs ≡ set xs i y → b ≡ true → i < length xs → (getD xs i 0 ≡ y → ⊥) → Taking (i + 1) before zs ys b
+  taking-new e f h ne =
+      subst (λ ws. Taking (i + 1) before ws ys b) (sym e) (
+        set-more (λ k x. x ≡ getD ys k 0) 0 y xs i h (t .0) is,
+        (λ k g. getD-set-other xs i k y 0 (λ z. omega (arith, z, g)) ∙ t .1 k (omega arith)),
+        (λ _ same. ne (t .1 i (omega arith) ∙ same i (omega arith) ∙ sym is)),
+        (λ z. absurd (true≢false (sym f ∙ z))),
+      )
 
-  pub taking-old : getD xs i 0 ≡ getD ys i 0 → Taking (i + 1) before xs ys any
-  taking-old e = (
-    below-more (λ k. getD xs k 0 ≡ getD ys k 0) i (t .0) e,
-    (λ k g. t .1 k (omega arith)),
-    (λ a same. t .2 a (λ k g. same k (omega arith))),
-    (λ a. below-more (λ k. getD before k 0 ≡ getD ys k 0) i (t .3 a) (sym (t .1 i (omega arith)) ∙ e)),
-  )
+  pub taking-old : zs ≡ xs → b ≡ any → getD xs i 0 ≡ y → Taking (i + 1) before zs ys b
+  taking-old e f old =
+      subst (λ ws. Taking (i + 1) before ws ys b) (sym e) (
+        below-more (λ k. getD xs k 0 ≡ getD ys k 0) i (t .0) (old ∙ is),
+        (λ k g. t .1 k (omega arith)),
+        (λ a same. t .2 (sym f ∙ a) (λ k g. same k (omega arith))),
+        (λ a. below-more (λ k. getD before k 0 ≡ getD ys k 0) i (t .3 (sym f ∙ a)) (sym (t .1 i (omega arith)) ∙ old ∙ is)),
+      )

@@ -34,9 +34,9 @@ module _ {V : Type 0} where
   pub delays-set : (xs : List (Spread V)) (i : ℕ) (s : Spread V) → delays (set xs i s) ≡ set (delays xs) i (s .delay .0)
   delays-set xs i s = map-set (λ t. t .delay .0) xs i s
 
-  pub delays-more : (P : ℕ → ℕ → Type 0) (s : Spread V) (xs : List (Spread V)) (i : ℕ) → i < length xs → ((k : ℕ) → k < i → P k (getD (delays xs) k 0)) → P i (s .delay .0) → (k : ℕ) → k < i + 1 → P k (getD (delays (set xs i s)) k 0)
-  delays-more P s xs i h low here k b =
-      subst (λ ys. P k (getD ys k 0)) (sym (map-set (λ t. t .delay .0) xs i s))
+  pub delays-more : (P : ℕ → ℕ → Type 0) (s : Spread V) (xs ys : List (Spread V)) (i : ℕ) → i < length xs → ys ≡ set xs i s → ((k : ℕ) → k < i → P k (getD (delays xs) k 0)) → P i (s .delay .0) → (k : ℕ) → k < i + 1 → P k (getD (delays ys) k 0)
+  delays-more P s xs ys i h e low here k b =
+      subst (λ zs. P k (getD zs k 0)) (sym (ap delays e ∙ delays-set xs i s))
       (set-more P 0 (s .delay .0) (delays xs) i (omega (arith, delays-length xs, h)) low here k b)
 
 -- a place of n rows and n columns

@@ -16,6 +16,10 @@ abbrev pub IsPath : Net → ℕ → List Link → ℕ → Type 0
 IsPath net u [] v = u ≡ v
 IsPath net u (l ∷ ls) v = Holds net l × (l .tail ≡ u) × IsPath net (l .head) ls v
 
+-- some path leads from u to v
+abbrev pub Reached : Net → ℕ → ℕ → Type 0
+Reached net u v = (ls : List Link) × IsPath net u ls v
+
 abbrev pub total-weight : List Link → ℕ
 total-weight [] = 0
 total-weight (l ∷ ls) = l .weight + total-weight ls

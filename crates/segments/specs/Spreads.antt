@@ -51,7 +51,15 @@ module _ {V : Type 0} where
   abbrev pub HasFigures : Net → Algebra V → ℕ → List (Spread V) → ℕ → ℕ → Type 0
   HasFigures net alg n xs u v = Ecmp net alg u v (slot alg xs (u * n + v) .delay .0) (slot alg xs (u * n + v) .value)
 
-  -- the slots of each pair of n nodes that a path joins
+  -- so have those of the heads of the links that begin a best path
+  abbrev pub HeadsFigured : Net → Algebra V → ℕ → List (Spread V) → ℕ → ℕ → Type 0
+  HeadsFigured net alg n xs u v = (l : Link) → Tight net u v l → HasFigures net alg n xs (l .head) v
+
+  -- so have those of each node from which a path leads to v
+  abbrev pub ColumnFigured : Net → Algebra V → ℕ → List (Spread V) → ℕ → Type 0
+  ColumnFigured net alg n xs v = (u : ℕ) (ls : List Link) → u < n → IsPath net u ls v → HasFigures net alg n xs u v
+
+  -- so have those of each pair of n nodes that a path joins
   abbrev pub Figured : Net → Algebra V → ℕ → List (Spread V) → Type 0
   Figured net alg n xs = (u v : ℕ) (ls : List Link) → u < n → v < n → IsPath net u ls v → HasFigures net alg n xs u v
 

@@ -12,7 +12,7 @@ use Rattle.segments.specs.declared.figures.Hop.{Hop}
 use Rattle.segments.specs.declared.order.Order.{Order}
 use Rattle.segments.specs.Algebra.{Algebra, algebra}
 use Rattle.segments.specs.Orders.{Precedes, First}
-use Rattle.segments.specs.Paths.{IsPath, IsBest, Ecmp}
+use Rattle.segments.specs.Paths.{Reached, IsBest, Ecmp}
 use Rattle.segments.specs.Segments.{NodeSegment, Segment, SegmentList, list-value}
 
 module _ {V : Type 0} (alg : Algebra V) where
@@ -39,8 +39,8 @@ module _ {V : Type 0} (alg : Algebra V) where
 
   -- a path from u to v, and figures of all best paths
   pub record FiguresExist (net : Net) (u v : ℕ) : Type 0 where
-    pub of-path : (ls : List Link) → IsPath net u ls v → (d : ℕ) × (x : V) × Ecmp net alg u v d x
-    pub of-figures : (d : ℕ) (x : V) → Ecmp net alg u v d x → (ls : List Link) × IsPath net u ls v
+    pub of-path : Reached net u v → (d : ℕ) × (x : V) × Ecmp net alg u v d x
+    pub of-figures : (d : ℕ) (x : V) → Ecmp net alg u v d x → Reached net u v
 
   -- figures are where a path is, and nowhere else
   abbrev pub Figures-where-paths : Type 0
@@ -48,8 +48,8 @@ module _ {V : Type 0} (alg : Algebra V) where
 
   -- a code of a node is legal at every other node from which there is a path, and nowhere else
   pub record NodeCodeLegal (net : Net) (u c : ℕ) : Type 0 where
-    pub of-path : c < 64 → (u ≡ c → ⊥) → (ls : List Link) → IsPath net u ls c → (h : Hop V) × NodeSegment net alg u c h
-    pub of-segment : (h : Hop V) → NodeSegment net alg u c h → (c < 64) × (u ≡ c → ⊥) × ((ls : List Link) × IsPath net u ls c)
+    pub of-path : c < 64 → (u ≡ c → ⊥) → Reached net u c → (h : Hop V) × NodeSegment net alg u c h
+    pub of-segment : (h : Hop V) → NodeSegment net alg u c h → (c < 64) × (u ≡ c → ⊥) × Reached net u c
 
   abbrev pub Node-codes-where-paths : Type 0
   Node-codes-where-paths = (net : Net) → Sound net → (u c : ℕ) → NodeCodeLegal net u c

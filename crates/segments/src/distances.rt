@@ -1,4 +1,5 @@
-// Distances of all pairs of nodes, by rounds of relaxation.
+// Distances of all pairs of nodes, by rounds of relaxation (Bellman and Ford).
+// A round reads the first working slice and writes the second, which keeps each new distance where a delay will stand.
 ghost use mathlib.Core.Path.{_≡_};
 ghost use mathlib.Core.Bool.{true, false};
 ghost use Prim.Native.Nat.{ℕ, _*_, _<_, _≤_};
@@ -6,7 +7,7 @@ ghost use lib.ListN.{length, getD};
 ghost use Rattle.segments.specs.Distances.{AllKnown, Same, Measured, delays};
 ghost use Rattle.segments.specs.Relaxations.{Round, Swept, Rounds, first-slot as firstSlot};
 use crate::figures::Spread;
-use crate::figures::note;
+use crate::figures::write_slot;
 use crate::links::held;
 use netmap::Link;
 use netmap::Map;
@@ -17,7 +18,7 @@ use tariff::Tariff;
 pub(crate) const NO_PATH: u32 = u32::MAX;
 
 // Before the first round: 0 from each node to itself.
-fn start(n: usize, dist: &mut [u32])
+fn start_distances(n: usize, dist: &mut [u32])
     requires nodes { ⌜ n ≤ 64 ⌝ }
     requires sized { ⌜ n * n ≤ length (now dist) ⌝ }
     ensures { λ _. ⌜ ((i : ℕ) → i < n * n → getD (now (dist .exit)) i 0 ≡ firstSlot n i) ⌝ }
@@ -27,26 +28,33 @@ fn start(n: usize, dist: &mut [u32])
     }
 }
 
-// The distances so far into the other slice, where a round betters them.
-fn carry<V: Tariff>(cells: usize, dist: &[u32], spread: &mut [Spread<V>])
+// A distance, kept where a delay will stand.
+fn keep<V: Tariff>(distance: u32) -> Spread<V>
+    ensures { λ r. ⌜ r .delay .0 ≡ distance ⌝ }
+{
+    Spread {
+        delay: Microseconds(distance),
+        value: V::neutral(),
+    }
+}
+
+// The distance that a slot of the second working slice keeps.
+fn kept_at<V: Tariff>(spread: &[Spread<V>], slot: usize) -> u32
+    requires { ⌜ slot < length (now spread) ⌝ }
+    ensures { λ r. ⌜ r ≡ getD (delays (now (spread .entry))) slot 0 ⌝ }
+{
+    spread[slot].delay.0
+}
+
+// The distances so far into the second slice, where a round betters them.
+fn carry_over<V: Tariff>(cells: usize, dist: &[u32], spread: &mut [Spread<V>])
     requires sized { ⌜ cells ≤ length (now dist) ⌝ }
     requires space { ⌜ cells ≤ length (now spread) ⌝ }
     ensures { λ _. ⌜ Same cells (now (dist .entry)) (delays (now (spread .exit))) ⌝ }
 {
     for i in 0..cells {
-        spread[i] = Spread {
-            delay: Microseconds(dist[i]),
-            value: V::neutral(),
-        };
+        write_slot(spread, i, keep(dist[i]));
     }
-}
-
-// The distance that a slot of the second working slice holds.
-fn delay_at<V: Tariff>(spread: &[Spread<V>], slot: usize) -> u32
-    requires { ⌜ slot < length (now spread) ⌝ }
-    ensures { λ r. ⌜ r ≡ getD (delays (now (spread .entry))) slot 0 ⌝ }
-{
-    spread[slot].delay.0
 }
 
 // Tries a link with the distance from its head, to each node.
@@ -64,16 +72,9 @@ fn sweep<V: Tariff>(n: usize, dist: &[u32], spread: &mut [Spread<V>], link: Link
         let rest = dist[link.head as usize * n + v];
         if rest != NO_PATH {
             let sum = link.weight as u32 + rest;
-            let best = delay_at(spread, row + v);
+            let best = kept_at(spread, row + v);
             if sum < best {
-                note(
-                    spread,
-                    row + v,
-                    Spread {
-                        delay: Microseconds(sum),
-                        value: V::neutral(),
-                    },
-                );
+                write_slot(spread, row + v, keep(sum));
             }
         }
     }
@@ -87,16 +88,16 @@ fn round<M: Map, V: Tariff>(map: &M, n: usize, dist: &[u32], spread: &mut [Sprea
     requires known { ⌜ AllKnown n (now dist) ⌝ }
     ensures { λ _. ⌜ Round (M·Map .meaning (now (map .entry))) n (now (dist .entry)) (delays (now (spread .exit))) ⌝ }
 {
-    carry(n * n, dist, spread);
-    for p in 0..map.places() {
-        if let Some(link) = held(map, p) {
+    carry_over(n * n, dist, spread);
+    for place in 0..map.places() {
+        if let Some(link) = held(map, place) {
             sweep(n, dist, spread, link);
         }
     }
 }
 
 // Takes the distances of a round over, and says whether any is new.
-fn improves<V: Tariff>(cells: usize, dist: &mut [u32], spread: &[Spread<V>]) -> bool
+fn take_over<V: Tariff>(cells: usize, dist: &mut [u32], spread: &[Spread<V>]) -> bool
     requires sized { ⌜ cells ≤ length (now dist) ⌝ }
     requires space { ⌜ cells ≤ length (now spread) ⌝ }
     ensures taken { λ _. ⌜ Same cells (now (dist .exit)) (delays (now (spread .entry))) ⌝ }
@@ -105,7 +106,7 @@ fn improves<V: Tariff>(cells: usize, dist: &mut [u32], spread: &[Spread<V>]) -> 
 {
     let mut any = false;
     for i in 0..cells {
-        let found = spread[i].delay.0;
+        let found = kept_at(spread, i);
         if dist[i] != found {
             dist[i] = found;
             any = true;
@@ -127,10 +128,10 @@ pub(crate) fn find_distances<M: Map, V: Tariff>(
     ensures measured { λ _. ⌜ Measured (M·Map .meaning (now (map .entry))) n (now (dist .exit)) ⌝ }
     ensures rounds { λ r. ⌜ Rounds (M·Map .meaning (now (map .entry))) r ⌝ }
 {
-    start(n, dist);
+    start_distances(n, dist);
     for k in 0..n {
         round(map, n, dist, spread);
-        if !improves(n * n, dist, spread) {
+        if !take_over(n * n, dist, spread) {
             return k + 1;
         }
     }

@@ -1,16 +1,14 @@
 // The figures of node segments, over all best paths (ECMP).
 ghost use mathlib.Core.Path.{_≡_};
-ghost use mathlib.Core.List.{List};
-ghost use Prim.Native.Nat.{ℕ, _*_, _<_, _≤_};
+ghost use Prim.Native.Nat.{_*_, _<_, _≤_};
 ghost use lib.ListN.{length};
-ghost use Rattle.netmap.specs.declared.link.Link.{Link as NetLink};
 ghost use Rattle.segments.specs.Algebra.{algebra};
 ghost use Rattle.segments.specs.Distances.{LeastOf, Measured};
-ghost use Rattle.segments.specs.Paths.{IsPath, Tight, Ecmp};
-ghost use Rattle.segments.specs.Spreads.{TightAt, HasFigures, Figured, Keyed, Spared, onward, slot as slotAt, worse-of as worseOf, lesser-of as lesserOf};
+ghost use Rattle.segments.specs.Paths.{Reached, Ecmp};
+ghost use Rattle.segments.specs.Spreads.{TightAt, HeadsFigured, ColumnFigured, Figured, Keyed, Spared, onward, slot as slotAt, worse-of as worseOf, lesser-of as lesserOf};
 use crate::distances::NO_PATH;
 use crate::figures::Spread;
-use crate::figures::note;
+use crate::figures::write_slot;
 use crate::links::held;
 use netmap::Link;
 use netmap::Map;
@@ -86,13 +84,13 @@ fn gather<M: Map, V: Tariff>(
     requires from { ⌜ u < n ⌝ }
     requires to { ⌜ v < n ⌝ }
     requires other { ⌜ (u ≡ v → ⊥) ⌝ }
-    requires reached { ⌜ ((ls : List NetLink) × IsPath (M·Map .meaning (now map)) u ls v) ⌝ }
-    requires heads { ⌜ ((l : NetLink) → Tight (M·Map .meaning (now map)) u v l → HasFigures (M·Map .meaning (now map)) (algebra (V·Ranking .good) (V·Tariff .joining)) n (now spread) (l .head) v) ⌝ }
+    requires reached { ⌜ Reached (M·Map .meaning (now map)) u v ⌝ }
+    requires heads { ⌜ HeadsFigured (M·Map .meaning (now map)) (algebra (V·Ranking .good) (V·Tariff .joining)) n (now spread) u v ⌝ }
     ensures { λ r. ⌜ Ecmp (M·Map .meaning (now (map .entry))) (algebra (V·Ranking .good) (V·Tariff .joining)) u v (r .delay .0) (r .value) ⌝ }
 {
     let mut found: Option<Spread<V>> = None;
-    for p in 0..map.places() {
-        if let Some(link) = tight(map, n, dist, u, v, p) {
+    for place in 0..map.places() {
+        if let Some(link) = tight(map, n, dist, u, v, place) {
             let rest = link.head as usize * n + v;
             found = Some(worse(found, go_on(link, spread, rest)));
         }
@@ -116,8 +114,8 @@ fn figures_between<M: Map, V: Tariff>(
     requires space { ⌜ n * n ≤ length (now spread) ⌝ }
     requires from { ⌜ u < n ⌝ }
     requires to { ⌜ v < n ⌝ }
-    requires reached { ⌜ ((ls : List NetLink) × IsPath (M·Map .meaning (now map)) u ls v) ⌝ }
-    requires heads { ⌜ ((l : NetLink) → Tight (M·Map .meaning (now map)) u v l → HasFigures (M·Map .meaning (now map)) (algebra (V·Ranking .good) (V·Tariff .joining)) n (now spread) (l .head) v) ⌝ }
+    requires reached { ⌜ Reached (M·Map .meaning (now map)) u v ⌝ }
+    requires heads { ⌜ HeadsFigured (M·Map .meaning (now map)) (algebra (V·Ranking .good) (V·Tariff .joining)) n (now spread) u v ⌝ }
     ensures { λ r. ⌜ Ecmp (M·Map .meaning (now (map .entry))) (algebra (V·Ranking .good) (V·Tariff .joining)) u v (r .delay .0) (r .value) ⌝ }
 {
     if u == v {
@@ -130,6 +128,7 @@ fn figures_between<M: Map, V: Tariff>(
     }
 }
 
+// The lesser of a number and, if there is one, another.
 fn lesser(one: Option<usize>, other: usize) -> usize
     ensures { λ r. ⌜ r ≡ lesserOf one other ⌝ }
 {
@@ -139,8 +138,8 @@ fn lesser(one: Option<usize>, other: usize) -> usize
     }
 }
 
-// Nodes in the order of their distances to v, and of their numbers where those are equal: the least key from bar on.
-fn next(n: usize, dist: &[u32], v: usize, bar: usize) -> Option<usize>
+// Nodes are keyed by their distance to v, and by their number where that is equal: the least key from bar on.
+fn nearest_key(n: usize, dist: &[u32], v: usize, bar: usize) -> Option<usize>
     requires nodes { ⌜ n ≤ 64 ⌝ }
     requires sized { ⌜ n * n ≤ length (now dist) ⌝ }
     requires to { ⌜ v < n ⌝ }
@@ -160,18 +159,24 @@ fn next(n: usize, dist: &[u32], v: usize, bar: usize) -> Option<usize>
 }
 
 // The figures from each node to v, nearest first, so that each link that begins a best path leads to figures that are there.
-fn column<M: Map, V: Tariff>(map: &M, n: usize, dist: &[u32], spread: &mut [Spread<V>], v: usize)
+fn fill_column<M: Map, V: Tariff>(
+    map: &M,
+    n: usize,
+    dist: &[u32],
+    spread: &mut [Spread<V>],
+    v: usize,
+)
     requires measured { ⌜ Measured (M·Map .meaning (now map)) n (now dist) ⌝ }
     requires space { ⌜ n * n ≤ length (now spread) ⌝ }
     requires to { ⌜ v < n ⌝ }
-    ensures done { λ _. ⌜ ((u : ℕ) (ls : List NetLink) → u < n → IsPath (M·Map .meaning (now (map .entry))) u ls v → HasFigures (M·Map .meaning (now (map .entry))) (algebra (V·Ranking .good) (V·Tariff .joining)) n (now (spread .exit)) u v) ⌝ }
+    ensures done { λ _. ⌜ ColumnFigured (M·Map .meaning (now (map .entry))) (algebra (V·Ranking .good) (V·Tariff .joining)) n (now (spread .exit)) v ⌝ }
     ensures spared { λ _. ⌜ Spared (algebra (V·Ranking .good) (V·Tariff .joining)) n v (now (spread .entry)) (now (spread .exit)) ⌝ }
 {
     let mut bar = 0;
-    while let Some(key) = next(n, dist, v, bar) {
+    while let Some(key) = nearest_key(n, dist, v, bar) {
         let u = key % n;
         let figures = figures_between(map, n, dist, spread, u, v);
-        note(spread, u * n + v, figures);
+        write_slot(spread, u * n + v, figures);
         bar = key + 1;
     }
 }
@@ -188,6 +193,6 @@ pub(crate) fn find_figures<M: Map, V: Tariff>(
     ensures { λ _. ⌜ Figured (M·Map .meaning (now (map .entry))) (algebra (V·Ranking .good) (V·Tariff .joining)) n (now (spread .exit)) ⌝ }
 {
     for v in 0..n {
-        column(map, n, dist, spread, v);
+        fill_column(map, n, dist, spread, v);
     }
 }

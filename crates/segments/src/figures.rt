@@ -39,7 +39,7 @@ pub struct Walk<V> {
 }
 
 // Writes a slot of the second working slice.
-pub(crate) fn note<V: Tariff>(spread: &mut [Spread<V>], slot: usize, figures: Spread<V>)
+pub(crate) fn write_slot<V: Tariff>(spread: &mut [Spread<V>], slot: usize, figures: Spread<V>)
     requires { ⌜ slot < length (now spread) ⌝ }
     ensures { λ _. ⌜ now (spread .exit) ≡ set (now (spread .entry)) slot figures ⌝ }
 {

@@ -1,4 +1,4 @@
-use mathlib.Core.Path.{refl, sym, _∙_, subst}
+use mathlib.Core.Path.{sym, subst}
 use Prim.Native.Nat.{_+_, _*_, _≤_, _<_}
 use native.Mathlib.Nat.{lt-of-lt-of-le}
 use borrow.Author.Needs.{needs}
@@ -19,11 +19,11 @@ add-sum g c =
     let i = c .args .link .head * c .args .n + c .loop-v .v in
     fits-sum (c .args .link .weight) (getD (c .args .dist .now) i 0) (search needs) (rest-small (getD (c .args .dist .now) i 0) (c .pre .known i (digits-lt (c .pre .head) (c .loop-v-test .taken))) (c .if-rest .taken))
 
-pub delay-at-best-requires : need.delay-at-best-requires
-delay-at-best-requires g c κs = lt-of-lt-of-le (digits-lt (c .pre .tail) (c .loop-v-test .taken)) (subst (λ m. c .args .n * c .args .n ≤ m) (sym (c .loop-v .kept .spread)) (c .pre .space))
+pub kept-at-best-requires : need.kept-at-best-requires
+kept-at-best-requires g c κs = lt-of-lt-of-le (digits-lt (c .pre .tail) (c .loop-v-test .taken)) (subst (λ m. c .args .n * c .args .n ≤ m) (sym (c .loop-v .kept .spread)) (c .pre .space))
 
-pub note-requires : need.note-requires
-note-requires g c κs = lt-of-lt-of-le (digits-lt (c .pre .tail) (c .loop-v-test .taken)) (subst (λ m. c .args .n * c .args .n ≤ m) (sym (c .loop-v .kept .spread)) (c .pre .space))
+pub write-slot-requires : need.write-slot-requires
+write-slot-requires g c κs = lt-of-lt-of-le (digits-lt (c .pre .tail) (c .loop-v-test .taken)) (subst (λ m. c .args .n * c .args .n ≤ m) (sym (c .loop-v .kept .spread)) (c .pre .space))
 
 pub loop-v-again : need.loop-v-again
 loop-v-again g c =
@@ -35,10 +35,9 @@ loop-v-again g c =
     let xs = c .loop-v .spread in
     let ys = c .if-rest .spread in
     let nv = c .loop-v-test .taken in
-    let rest = getD old (l .head * n + v) 0 in
     let wide : l .tail * n + v < length xs = lt-of-lt-of-le (digits-lt (c .pre .tail) nv) (subst (λ m. n * n ≤ m) (sym (c .loop-v .kept .spread)) (c .pre .space)) in
     elim (c .if-rest .came) [
-      | then-rest·then-sum-best w ↦ swept-less n l old new v xs ys nv (c .loop-v .inv) (w .delay-at-best .result) (w .delay-at-best .ensures) (w .if-rest .taken) (record { delay = record { 0 = l .weight + rest }; value = w .neutral .result }) (w .spread-is ∙ w .note .ensures) refl wide (w .if-sum-best .taken)
-      | then-rest·else-sum-best w ↦ swept-more n l old new v xs ys nv (c .loop-v .inv) (w .delay-at-best .result) (w .delay-at-best .ensures) (w .if-rest .taken) (w .spread-is) (w .if-sum-best .left)
+      | then-rest·then-sum-best w ↦ swept-less n l old new v xs ys nv (c .loop-v .inv) (w .kept-at-best .result) (w .kept-at-best .ensures) (w .if-rest .taken) (w .keep .result) (w .write-slot .last .spread) (w .spread-is) (w .write-slot .ensures) (w .keep .ensures) wide (w .if-sum-best .taken)
+      | then-rest·else-sum-best w ↦ swept-more n l old new v xs ys nv (c .loop-v .inv) (w .kept-at-best .result) (w .kept-at-best .ensures) (w .if-rest .taken) (w .spread-is) (w .if-sum-best .left)
       | else-rest w ↦ swept-far n l old new v xs ys nv (c .loop-v .inv) (w .spread-is) (w .if-rest .left)
     ]

@@ -7,8 +7,8 @@ use Rattle.std.specs.declared.option.Option.the-variants.{Some}
 use Rattle.segments.specs.Distances.{LeastOf}
 use Rattle.segments.proofs.DistanceSlots.{cell-full}
 use Rattle.segments.proofs.NearestKeys.{KeyedTo, keys-unknown, keys-before, keys-take, keys-all}
-use Rattle.segments.proofs.ecmp.next.Needs as need
-use Rattle.segments.proofs.ecmp.next.Needs.{then-far·then-key-bar, then-far·else-key-bar, else-far}
+use Rattle.segments.proofs.ecmp.nearest_key.Needs as need
+use Rattle.segments.proofs.ecmp.nearest_key.Needs.{then-far·then-key-bar, then-far·else-key-bar, else-far}
 
 pub index-dist-u : need.index-dist-u
 index-dist-u c = lt-of-lt-of-le (digits-lt (c .loop-u-test .taken) (c .pre .to)) (c .pre .sized)

@@ -2,7 +2,7 @@ use Prim.Native.Nat.{_-_}
 use Rattle.segments.specs.Algebra.{algebra}
 use Rattle.segments.specs.Spreads.{Spared}
 use Rattle.segments.proofs.ColumnsFilled.{FilledTo}
-use Rattle.segments.proofs.ecmp.column.Given as given
+use Rattle.segments.proofs.ecmp.fill_column.Given as given
 
 abbrev pub Inv-loop-key : given.InvT-loop-key
 Inv-loop-key g l =

@@ -8,7 +8,7 @@ use Rattle.segments.proofs.ColumnsFilled.{key-small, key-path, spared-first, f
 use Rattle.segments.proofs.NearestKeys.{key-below}
 use Rattle.segments.proofs.NodesReached.{few-nodes}
 use Rattle.segments.proofs.NumbersFit.{fits-place, fits-next, fits-key}
-use Rattle.segments.proofs.ecmp.column.Needs as need
+use Rattle.segments.proofs.ecmp.fill_column.Needs as need
 
 pub loop-key-holds : need.loop-key-holds
 loop-key-holds g c =
@@ -42,8 +42,8 @@ add-u g c =
     let few = few-nodes (g .M·Map .meaning (c .args .map .now)) (g .M·Map .sound (c .args .map .now)) (c .args .n) (c .pre .measured .nodes) in
     fits-next (c .in-Some .key % c .args .n) (c .args .n) (c .args .v) (key-below (c .in-Some .ensures tt .0)) (c .pre .to) few
 
-pub note-requires : need.note-requires
-note-requires g c κs =
+pub write-slot-requires : need.write-slot-requires
+write-slot-requires g c κs =
     lt-of-lt-of-le (digits-lt (key-below (c .in-Some .ensures tt .0)) (c .pre .to)) (subst (λ m. c .args .n * c .args .n ≤ m) (sym (c .loop-key .kept .spread)) (c .pre .space))
 
 pub add-bar : need.add-bar
@@ -67,8 +67,8 @@ loop-key-again g c =
     let least = c .in-Some .ensures tt in
     let s = c .figures-between-figures .result in
     let wide = subst (λ m. n * n ≤ m) (sym (l .kept .spread)) (c .pre .space) in (
-      filled-more net alg n dist v sound (c .pre .measured) (c .pre .to) (l .bar) (l .spread) (l .inv .0) key least s (c .note .last .spread) (c .note .ensures) wide (c .figures-between-figures .ensures),
-      spared-more net alg n dist v sound (c .pre .measured) (c .pre .to) (l .bar) (l .spread) (l .inv .0) key least s (c .note .last .spread) (c .note .ensures) wide (c .figures-between-figures .ensures) (c .args .spread .now) (l .inv .1),
+      filled-more net alg n dist v sound (c .pre .measured) (c .pre .to) (l .bar) (l .spread) (l .inv .0) key least s (c .write-slot .last .spread) (c .write-slot .ensures) wide (c .figures-between-figures .ensures),
+      spared-more net alg n dist v sound (c .pre .measured) (c .pre .to) (l .bar) (l .spread) (l .inv .0) key least s (c .write-slot .last .spread) (c .write-slot .ensures) wide (c .figures-between-figures .ensures) (c .args .spread .now) (l .inv .1),
     )
 
 pub returns : need.returns

@@ -5,8 +5,8 @@ use lib.ListN.{length}
 use Rattle.segments.specs.Relaxations.{first-slot}
 use Rattle.segments.proofs.RoundsEnd.{first-own, first-other}
 use Rattle.segments.proofs.TableSlots.{set-more}
-use Rattle.segments.proofs.distances.start.Needs as need
-use Rattle.segments.proofs.distances.start.Needs.{then-i-n, else-i-n}
+use Rattle.segments.proofs.distances.start_distances.Needs as need
+use Rattle.segments.proofs.distances.start_distances.Needs.{then-i-n, else-i-n}
 
 pub loop-i-again : need.loop-i-again
 loop-i-again c =
