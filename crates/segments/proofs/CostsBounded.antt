@@ -14,8 +14,8 @@ use Rattle.segments.specs.Algebra.{Algebra, algebra, joined-from}
 use Rattle.segments.specs.Paths.{total-weight, path-value}
 use Rattle.segments.specs.Segments.{Segment, SegmentList}
 use Rattle.segments.specs.Theorems.{Costs-bounded}
+use Rattle.segments.proofs.BestPathsShort.{best-small}
 use Rattle.segments.proofs.NodesReached.{tail-node}
-use Rattle.segments.proofs.SimplePaths.{best-small}
 
 abbrev cost-algebra : Algebra Cost
 cost-algebra = algebra cheaper costs

@@ -11,9 +11,9 @@ use Rattle.netmap.specs.declared.link.Link.{Link}
 use Rattle.netmap.specs.Net.{Net, Sound}
 use Rattle.segments.specs.Distances.{LeastOf, Far, cell, table-of, Measured, Known, AllKnown}
 use Rattle.segments.specs.Paths.{IsPath, total-weight, IsBest}
+use Rattle.segments.proofs.BestPathsShort.{best-small}
 use Rattle.segments.proofs.DistanceSlots.{cell-cases}
-use Rattle.segments.proofs.SimplePaths.{best-small}
-use Rattle.segments.proofs.TableSlots.{by-place}
+use Rattle.segments.proofs.TableSlots.{by-slot}
 
 module _ (net : Net) (sound : Sound net) (n : ℕ) (xs : List ℕ) (m : Measured net n xs) where
   far-best : (u v w : ℕ) → LeastOf (Far net u v) (Some w) → (ls : List Link) × IsBest net u ls v × (total-weight ls ≡ w)
@@ -21,7 +21,7 @@ module _ (net : Net) (sound : Sound net) (n : ℕ) (xs : List ℕ) (m : Measured
 
   -- distances are small
   pub exact-known : AllKnown n xs
-  exact-known = by-place n (λ u v i. Known (getD xs i 0)) (λ u v nu nv. known-at u v nu (getD xs (u * n + v) 0) (m .exact u v nu nv))
+  exact-known = by-slot n (λ u v i. Known (getD xs i 0)) (λ u v nu nv. known-at u v nu (getD xs (u * n + v) 0) (m .exact u v nu nv))
     where
       known-at : (u v : ℕ) → u < n → (x : ℕ) → LeastOf (Far net u v) (cell x) → Known x
       known-at u v nu x l = ⊎-elim

@@ -43,9 +43,6 @@ module _ {V : Type 0} (net : Net) (alg : Algebra V) (n : ℕ) (xs : List (Spread
   last-or : (q p : ℕ) → q < p + 1 → (q ≡ p) ⊎ (q < p)
   last-or q p h = ⊎-elim inl (λ (ne : q ≡ p → ⊥). inr (omega arith)) (cases-eq q p)
 
-  pub gathered-first : Gathered 0 None
-  gathered-first q l h = absurd (omega arith)
-
   gathered-none : (p : ℕ) (o : Option (Spread V)) → TightAt net u v p None → Gathered p o → Gathered (p + 1) o
   gathered-none p None ne g = λ q l h at t. ⊎-elim (λ (e : q ≡ p). ne l (subst (λ m. link-at net m ≡ Some l) e at) t) (λ k. g q l k at t) (last-or q p h)
   gathered-none p (Some s) ne g = record {

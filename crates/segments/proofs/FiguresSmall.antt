@@ -8,7 +8,7 @@ use Rattle.segments.specs.declared.figures.Hop.{Hop}
 use Rattle.segments.specs.Algebra.{Algebra}
 use Rattle.segments.specs.Paths.{Ecmp}
 use Rattle.segments.specs.Segments.{Segment}
-use Rattle.segments.proofs.SimplePaths.{best-small}
+use Rattle.segments.proofs.BestPathsShort.{best-small}
 
 module _ {V : Type 0} (net : Net) (alg : Algebra V) where
   pub ecmp-small : Sound net → (u v d : ℕ) (x : V) → u < net .nodes → Ecmp net alg u v d x → d ≤ 6300000

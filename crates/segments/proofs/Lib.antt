@@ -1,3 +1,4 @@
+pub mod BestPathsShort
 pub mod ColumnsFilled
 pub mod CostsBounded
 pub mod DistanceSlots
@@ -5,8 +6,10 @@ pub mod EcmpFromHeads
 pub mod EntryMeaning
 pub mod ExactDistances
 pub mod FiguresGathered
+pub mod FiguresOnward
 pub mod FiguresSmall
 pub mod FiguresTotal
+pub mod FirstBestPath
 pub mod FirstUnique
 pub mod GrainsRounded
 pub mod JoinedValues

@@ -1,5 +1,5 @@
 -- A link is tried in the row of its tail, slot by slot.
-use mathlib.Core.Path.{_≡_, refl, sym, ap, _∙_, subst}
+use mathlib.Core.Path.{_≡_, sym, ap, _∙_, subst}
 use mathlib.Core.Bool.{cond}
 use mathlib.Core.List.{List}
 use Prim.Native.Nat.{ℕ, _+_, _*_, _/_, _≤_, _<_, min}
@@ -12,7 +12,7 @@ use Rattle.std.proofs.shelf.Tests.{eq-eqb, ne-eqb}
 use Rattle.netmap.specs.declared.link.Link.{Link}
 use Rattle.segments.specs.declared.figures.Spread.{Spread}
 use Rattle.segments.specs.Distances.{delays}
-use Rattle.segments.specs.Relaxations.{nearer, Swept}
+use Rattle.segments.specs.Relaxations.{nearer}
 use Rattle.segments.proofs.TableSlots.{delays-length, delays-set}
 
 -- the row of the link's tail is tried below v
@@ -22,12 +22,6 @@ pub record SweptTo (n : ℕ) (l : Link) (old new xs : List ℕ) (v : ℕ) : Type
   pub others : (u k : ℕ) → k < n → (u ≡ l .tail → ⊥) → getD xs (u * n + k) 0 ≡ getD new (u * n + k) 0
 
 module _ (n : ℕ) (l : Link) (old new : List ℕ) where
-  pub swept-first : SweptTo n l old new new 0
-  swept-first = record { below = λ k h. absurd (omega arith); above = λ k h g. refl; others = λ u k h ne. refl }
-
-  pub swept-all : (v : ℕ) (xs : List ℕ) → n ≤ v → SweptTo n l old new xs v → Swept n l old new xs
-  swept-all v xs past s = record { row = λ k h. s .below k (omega arith); others = s .others }
-
   module _ (v : ℕ) (xs : List ℕ) (nv : v < n) (s : SweptTo n l old new xs v) where
     -- the slot keeps what it holds
     swept-keep : getD xs (l .tail * n + v) 0 ≡ nearer (getD xs (l .tail * n + v) 0) (l .weight) (getD old (l .head * n + v) 0) → SweptTo n l old new xs (v + 1)

@@ -8,7 +8,7 @@ use lib.Arith.{digits-mod}
 use lib.ListN.{getD}
 use Rattle.std.proofs.shelf.Tests.{cases-eq}
 use Rattle.std.specs.declared.option.Option.{Option}
-use Rattle.std.specs.declared.option.Option.the-variants.{Some, None}
+use Rattle.std.specs.declared.option.Option.the-variants.{Some}
 use Rattle.segments.specs.Distances.{LeastOf, table-of}
 use Rattle.segments.specs.Spreads.{lesser-of, Keyed}
 use Rattle.segments.proofs.DistanceSlots.{cell-none}
@@ -49,9 +49,6 @@ module _ (n : ℕ) (xs : List ℕ) (v bar i : ℕ) where
 
 pub keys-all : (n : ℕ) (xs : List ℕ) (v bar i : ℕ) (o : Option ℕ) → n ≤ i → LeastOf (KeyedTo n xs v bar i) o → LeastOf (Keyed n xs v bar) o
 keys-all n xs v bar i o past = least-same _ _ o (λ w r. r .0) (λ w r. (r, omega (arith, r .below, past)))
-
-pub keys-first : (n : ℕ) (xs : List ℕ) (v bar : ℕ) → LeastOf (KeyedTo n xs v bar 0) None
-keys-first n xs v bar y r = omega (arith, r .1)
 
 -- the node of a key
 module _ {n : ℕ} {xs : List ℕ} {v bar key : ℕ} (k : Keyed n xs v bar key) where

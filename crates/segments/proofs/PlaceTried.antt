@@ -15,7 +15,7 @@ use Rattle.segments.proofs.DistanceSlots.{cell-some}
 use Rattle.segments.proofs.LeastNumbers.{least-same}
 use Rattle.segments.proofs.OptionValues.{some-same, none-some}
 
--- a number that is known, or stands for no path
+-- a distance with one weight added, or no path
 abbrev pub Small : ℕ → Type 0
 Small w = (w ≤ 4194240) ⊎ (w ≡ 4294967295)
 
@@ -80,7 +80,7 @@ module _ (net : Net) (old : ℕ → ℕ → Option ℕ) (p u v : ℕ) where
       pub try-more : best ≤ l .weight + rest → LeastOf (TriedTo net old (p + 1) u v) (cell best)
       try-more = least-leave _ _ best (l .weight + rest) least small fits grows down own
 
-  -- before the first place, and behind the last
+  -- behind the last place
   pub tried-all : (o : Option ℕ) → places net ≤ p → LeastOf (TriedTo net old p u v) o → LeastOf (Tried net old u v) o
   tried-all o past = least-same _ _ o (λ w. forth w) (λ w. back w)
     where
@@ -95,6 +95,7 @@ module _ (net : Net) (old : ℕ → ℕ → Option ℕ) (p u v : ℕ) where
           (λ (h : p ≤ r .holds .0). absurd (none-some _ (r .link) (getD-past (net .links) (r .holds .0) None (omega arith)) (r .holds .1)))
           (cases-lt (r .holds .0) p)
 
+-- before the first place
 pub tried-first : (net : Net) (old : ℕ → ℕ → Option ℕ) (u v : ℕ) → LeastOf (TriedTo net old 0 u v) (old u v)
 tried-first net old u v = go (old u v) refl
   where

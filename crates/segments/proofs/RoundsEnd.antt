@@ -2,27 +2,26 @@
 use mathlib.Core.Path.{_≡_, refl, sym, ap, _∙_, subst}
 use mathlib.Core.Bool.{cond}
 use mathlib.Core.List.{List, [], _∷_}
-use mathlib.Core.Logic.{⊎-elim}
+use mathlib.Core.Logic.{inl, ⊎-elim}
 use Prim.Native.Nat.{ℕ, _+_, _-_, _*_, _/_, _%_, _≤_, _<_}
 use native.Mathlib.Omega.{arith}
 use lib.Arith.{digits-lt}
 use lib.Dec.{eqb}
 use lib.ListN.{length, getD}
 use Rattle.std.proofs.shelf.Tests.{cases-eq, eq-eqb, ne-eqb}
-use Rattle.std.specs.declared.option.Option.{Option}
 use Rattle.std.specs.declared.option.Option.the-variants.{Some, None}
 use Rattle.netmap.specs.declared.link.Link.{Link}
 use Rattle.netmap.specs.Net.{Net, Sound}
 use Rattle.segments.specs.Distances.{LeastOf, Far, cell, table-of, Exact, Known, AllKnown, Same}
 use Rattle.segments.specs.Paths.{IsPath, total-weight, IsBest}
 use Rattle.segments.specs.Relaxations.{Near, Tried, Found, Round, first-slot, Enough}
+use Rattle.segments.proofs.BestPathsShort.{best-short, path-small}
 use Rattle.segments.proofs.DistanceSlots.{cell-cases, cell-once, least-known}
+use Rattle.segments.proofs.FirstBestPath.{first-best}
 use Rattle.segments.proofs.LeastNumbers.{least-once}
 use Rattle.segments.proofs.NodesReached.{path-node}
-use Rattle.segments.proofs.OptionValues.{some-same}
 use Rattle.segments.proofs.RoundExtends.{round-more, settled}
-use Rattle.segments.proofs.SimplePaths.{simple, simple-short, best-short, path-small}
-use Rattle.segments.proofs.TableSlots.{by-place, by-pair}
+use Rattle.segments.proofs.TableSlots.{by-slot, by-pair}
 
 pub first-own : (n i x : ℕ) → x ≡ 0 → i / n ≡ i % n → x ≡ first-slot n i
 first-own n i x z e = z ∙ ap (λ b. cond b 0 4294967295) (sym (eq-eqb (i / n) (i % n) e))
@@ -66,15 +65,7 @@ module _ (net : Net) (sound : Sound net) where
       found-net u v nu nv = found u v (node u nu) (node v nv)
 
       pub found-known : k < n → AllKnown n old
-      found-known few = by-place n (λ u v i. Known (getD old i 0)) (λ u v nu nv. least-known (Near net k u v) (getD old (u * n + v) 0) (found u v nu nv) (λ y r. omega (arith, path-small net sound u v (r .links) (r .path) .0, r .short, r .weight, sound .nodes-high, same)))
-
-      -- where a path is, the slot is full
-      near-slot : (u v : ℕ) (ls : List Link) → u < n → v < n → IsPath net u ls v → length ls ≤ k → (w : ℕ) × (table-of n old u v ≡ Some w) × Near net k u v w × (w ≤ total-weight ls)
-      near-slot u v ls nu nv p s = pick (table-of n old u v) refl
-        where
-          pick : (o : Option ℕ) → table-of n old u v ≡ o → (w : ℕ) × (table-of n old u v ≡ Some w) × Near net k u v w × (w ≤ total-weight ls)
-          pick (Some w) e = let l = subst (LeastOf (Near net k u v)) e (found u v nu nv) in (w, e, l .0, l .1 (total-weight ls) (record { links = ls; path = p; short = s; weight = refl }))
-          pick None e = absurd (subst (LeastOf (Near net k u v)) e (found u v nu nv) (total-weight ls) (record { links = ls; path = p; short = s; weight = refl }))
+      found-known few = by-slot n (λ u v i. Known (getD old i 0)) (λ u v nu nv. least-known (Near net k u v) (getD old (u * n + v) 0) (found u v nu nv) (λ y r. omega (arith, path-small net sound u v (r .links) (r .path) .0, r .short, r .weight, sound .nodes-high, same)))
 
       module _ (new : List ℕ) (round : Round net n old new) where
         pub round-found : Found net (k + 1) n new
@@ -88,7 +79,7 @@ module _ (net : Net) (sound : Sound net) where
 
         -- where k links are enough, a round changes nothing
         pub enough-still : (j : ℕ) → Enough net j → j ≤ k → Same (n * n) old new
-        enough-still j en le = by-place n (λ u v i. getD old i 0 ≡ getD new i 0) (λ u v nu nv. cell-once _ _ (least-once (Near net k u v) (Near net (k + 1) u v) (table-of n old u v) (table-of n new u v) (found u v nu nv) (round-found u v nu nv)
+        enough-still j en le = by-slot n (λ u v i. getD old i 0 ≡ getD new i 0) (λ u v nu nv. cell-once _ _ (least-once (Near net k u v) (Near net (k + 1) u v) (table-of n old u v) (table-of n new u v) (found u v nu nv) (round-found u v nu nv)
             (λ w r. (w, record { links = r .links; path = r .path; short = omega (arith, r .short); weight = r .weight }, omega arith))
             (λ w r. let b = en u v (r .links) (of-net u nu) (r .path) in
             (total-weight (b .0), record { links = b .0; path = b .1 .path; short = omega (arith, b .2); weight = refl }, omega (arith, b .1 .least (r .links) (r .path), r .weight)))))
@@ -109,14 +100,7 @@ module _ (net : Net) (sound : Sound net) where
               (cell-cases x)
 
   -- fewer links than nodes are enough
-  pub enough-all : (n : ℕ) → n ≡ net .nodes → (xs : List ℕ) → Found net n n xs → Enough net (n - 1)
-  enough-all n same xs found u v ls nu p =
-      let nv = path-node net sound u v ls nu p in
-      let s = simple net sound u v ls p in
-      let f = near-slot n same n xs found u v (s .links) (node n same u nu) (node n same v nv) (s .path) (omega (arith, simple-short net sound u v (total-weight ls) s nu, same)) in
-      let least : (ms : List Link) → IsPath net u ms v → total-weight (f .2 .links) ≤ total-weight ms = λ ms q.
-      let t = simple net sound u v ms q in
-      let h = near-slot n same n xs found u v (t .links) (node n same u nu) (node n same v nv) (t .path) (omega (arith, simple-short net sound u v (total-weight ms) t nu, same)) in
-      omega (arith, some-same (table-of n xs u v) (f .0) (h .0) (f .1) (h .1), h .3, t .lighter, f .2 .weight) in
-      let b : IsBest net u (f .2 .links) v = record { path = f .2 .path; least = least } in
-      (f .2 .links, b, omega (arith, best-short net sound u v (f .2 .links) nu b, same))
+  pub enough-all : (n : ℕ) → n ≡ net .nodes → Enough net (n - 1)
+  enough-all n same u v ls nu p =
+      let b = first-best net sound (λ x y. Unit {0}) (record { total = λ x y. inl tt; trans = λ x y z a b. tt }) u v ls nu p in
+      (b .0, b .1, omega (arith, best-short net sound u v (b .0) nu (b .1), same))

@@ -8,14 +8,11 @@ use borrow.Author.Count.{below-more}
 use lib.Arith.{digits-lt, digits-div, digits-mod}
 use lib.ListN.{length, getD, set}
 use lib.Seq.{getD-set-same, getD-set-other}
-use Rattle.std.proofs.shelf.Lists.{length-map, getD-map, map-set, getD-read}
+use Rattle.std.proofs.shelf.Lists.{length-map, getD-map, map-set}
 use Rattle.std.proofs.shelf.Bits.{div-add-mod', div-below, mod-below}
 use Rattle.std.proofs.shelf.Tests.{cases-lt}
-use Rattle.netmap.specs.declared.link.Link.{Link}
 use Rattle.segments.specs.declared.figures.Spread.{Spread}
-use Rattle.segments.specs.Algebra.{Algebra}
 use Rattle.segments.specs.Distances.{delays}
-use Rattle.segments.specs.Spreads.{slot, onward}
 
 -- one slot more is written
 pub set-more : {X : Type 0} (P : ℕ → X → Type 0) (d x : X) (xs : List X) (i : ℕ) → i < length xs → ((k : ℕ) → k < i → P k (getD xs k d)) → P i x → (k : ℕ) → k < i + 1 → P k (getD (set xs i x) k d)
@@ -39,7 +36,7 @@ module _ {V : Type 0} where
       subst (λ zs. P k (getD zs k 0)) (sym (ap delays e ∙ delays-set xs i s))
       (set-more P 0 (s .delay .0) (delays xs) i (omega (arith, delays-length xs, h)) low here k b)
 
--- a place of n rows and n columns
+-- a slot of n rows and n columns
 pub row-below : (n i : ℕ) → i < n * n → i / n < n
 row-below n i h = div-below i n n (some-node n i h) h
   where
@@ -52,20 +49,11 @@ row-below n i h = div-below i n n (some-node n i h) h
 pub column-below : (n i : ℕ) → i < n * n → i % n < n
 column-below n i h = mod-below i n (omega (arith, row-below n i h))
 
--- what holds by place holds by row and column, and the other way about
-pub by-place : (n : ℕ) (P : ℕ → ℕ → ℕ → Type 0) → ((u v : ℕ) → u < n → v < n → P u v (u * n + v)) → (i : ℕ) → i < n * n → P (i / n) (i % n) i
-by-place n P f i h = subst (P (i / n) (i % n)) (div-add-mod' i n) (f (i / n) (i % n) (row-below n i h) (column-below n i h))
+-- what holds of each row and column holds of each slot, and the other way about
+pub by-slot : (n : ℕ) (P : ℕ → ℕ → ℕ → Type 0) → ((u v : ℕ) → u < n → v < n → P u v (u * n + v)) → (i : ℕ) → i < n * n → P (i / n) (i % n) i
+by-slot n P f i h = subst (P (i / n) (i % n)) (div-add-mod' i n) (f (i / n) (i % n) (row-below n i h) (column-below n i h))
 
 pub by-pair : (n : ℕ) (P : ℕ → ℕ → ℕ → Type 0) → ((i : ℕ) → i < n * n → P (i / n) (i % n) i) → (u v : ℕ) → u < n → v < n → P u v (u * n + v)
 by-pair n P f u v nu nv =
     let i = u * n + v in
     subst (λ x. P x v i) (digits-div u nv) (subst (λ x. P (i / n) x i) (digits-mod u nv) (f i (digits-lt nu nv)))
-
-pub slot-read : {V : Type 0} (alg : Algebra V) (xs : List (Spread V)) (i : ℕ) (s : Spread V) → i < length xs → s ≡ getD xs i s → slot alg xs i ≡ s
-slot-read alg xs i s h e = sym (getD-read xs i s h e _)
-
-pub onward-is : {V : Type 0} (alg : Algebra V) (xs : List (Spread V)) (i : ℕ) (l : Link) (s : Spread V) (x y : V) → slot alg xs i ≡ s → y ≡ alg .of-link l → x ≡ alg .join y (s .value) → record { delay = record { 0 = l .delay .0 + s .delay .0 }; value = x } ≡ onward alg xs i l
-onward-is alg xs i l s x y e f q = λ j. record {
-  delay = record { 0 = l .delay .0 + sym e j .delay .0 };
-  value = (q ∙ (λ k. alg .join (f k) (sym e k .value))) j;
-}

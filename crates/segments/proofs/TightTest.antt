@@ -19,13 +19,7 @@ use Rattle.segments.proofs.TightLinks.{tight-test, tight-nearer}
 
 module _ (net : Net) (sound : Sound net) (n : ℕ) (xs : List ℕ) (m : Measured net n xs) where
   module _ (u v p : ℕ) (nu : u < n) (nv : v < n) where
-    pub tight-empty : None ≡ link-at net p → TightAt net u v p None
-    tight-empty e l at t = none-some (link-at net p) l (sym e) at
-
     module _ (l : Link) (at : link-at net p ≡ Some l) where
-      pub tight-tail : (l .tail ≡ u → ⊥) → TightAt net u v p None
-      tight-tail ne k here t = ne (ap (λ j. j .tail) (some-same (link-at net p) l k at here) ∙ t .best .path .1)
-
       pub tight-rest : getD xs (l .head * n + v) 0 ≡ 4294967295 → TightAt net u v p None
       tight-rest e k here t =
           let s = some-same (link-at net p) k l here at in

@@ -10,7 +10,7 @@ use Rattle.netmap.specs.Net.{Net, Sound}
 use Rattle.segments.specs.declared.figures.Hop.{Hop}
 use Rattle.segments.specs.declared.figures.Walk.{Walk}
 use Rattle.segments.specs.Algebra.{Algebra}
-use Rattle.segments.specs.Entries.{Entry, Stays, Extended}
+use Rattle.segments.specs.Entries.{Entry, Extended}
 use Rattle.segments.specs.Segments.{Segment, grains-of}
 use Rattle.segments.specs.Walks.{Walked, Stuck}
 use Rattle.segments.proofs.FiguresSmall.{segment-small}
@@ -26,15 +26,6 @@ module _ {V : Type 0} (net : Net) (alg : Algebra V) (source grain : ℕ) (cs : L
     pub grains : w .figures .grains .0 ≤ 6300000 * i
     pub delay : w .figures .delay .0 ≤ 6300000 * i
     pub labels : w .figures .labels .0 ≡ i
-
-  pub walked-first : (w : Walk V) → source < net .nodes → Stays alg source w → WalkedTo 0 w
-  walked-first w node s = record {
-    walked = record { hops = []; legal = tt; end = s .end; value = s .value; grains = s .grains; delay = s .delay; labels = s .labels };
-    end = subst (λ m. m < net .nodes) (sym (s .end)) node;
-    grains = omega (arith, s .grains);
-    delay = omega (arith, s .delay);
-    labels = s .labels;
-  }
 
   module _ (sound : Sound net) (coarse : 1 ≤ grain) (i : ℕ) (within : i < length cs) (w : Walk V) (so : WalkedTo i w) where
     pub walked-more : (h : Hop V) (r : Walk V) → Entry net alg (w .end) (getD cs i 0) (Some h) → Extended alg grain w h r → WalkedTo (i + 1) r

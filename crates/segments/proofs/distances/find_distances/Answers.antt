@@ -4,7 +4,6 @@ use Prim.Native.Nat.{_+_, _*_, _≤_, _<_}
 use native.Mathlib.Omega.{arith}
 use Rattle.std.proofs.shelf.Tests.{cases-lt}
 use Rattle.segments.specs.Distances.{Exact, delays}
-use Rattle.segments.specs.Relaxations.{Found}
 use Rattle.segments.proofs.RoundsEnd.{found-same, exact-same, start-found, found-known, round-found, round-exact, enough-still, found-enough, enough-all}
 use Rattle.segments.proofs.distances.find_distances.Needs as need
 
@@ -69,5 +68,4 @@ unreachable-requires g c κs =
     let sound = g .M·Map .sound (c .args .map .now) in
     let n = c .args .n in
     let end : c .loop-k .k ≡ n = omega arith in
-    let e = enough-all net sound n (c .pre .nodes) (c .loop-k .dist) (subst (λ k. Found net k n (c .loop-k .dist)) end (c .loop-k .inv .0)) in
-    omega (arith, c .loop-k .inv .1 _ e, end, sound .nodes-low, c .pre .nodes)
+    omega (arith, c .loop-k .inv .1 _ (enough-all net sound n (c .pre .nodes)), end, sound .nodes-low, c .pre .nodes)

@@ -1,8 +1,8 @@
 use mathlib.Core.Path.{subst}
 use Prim.Native.Nat.{_≤_}
 use Rattle.segments.specs.Algebra.{algebra}
+use Rattle.segments.proofs.FiguresOnward.{slot-read, onward-is}
 use Rattle.segments.proofs.NumbersFit.{fits-delay}
-use Rattle.segments.proofs.TableSlots.{slot-read, onward-is}
 use Rattle.segments.proofs.ecmp.go_on.Needs as need
 
 pub add-result : need.add-result

@@ -1,4 +1,4 @@
-use Rattle.segments.proofs.SimplePaths.{best-paths-short}
+use Rattle.segments.proofs.BestPathsShort.{best-paths-short}
 use Rattle.segments.proofs.theorems.best_paths_are_short.Needs as need
 
 pub returns : need.returns
