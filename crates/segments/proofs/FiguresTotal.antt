@@ -9,8 +9,8 @@ use Rattle.segments.specs.Paths.{total-delay, path-value, Ecmp}
 use Rattle.segments.specs.Theorems.{Figures-where-paths, Node-codes-where-paths}
 use Rattle.segments.proofs.EcmpFromHeads.{ecmp-self}
 use Rattle.segments.proofs.FirstBestPath.{first-best}
+use Rattle.segments.proofs.FirstShortPath.{Preorder}
 use Rattle.segments.proofs.NodesReached.{tail-node}
-use Rattle.segments.proofs.ShortPathExtremes.{Preorder}
 
 module _ {V : Type 0} (alg : Algebra V) (lawful : Laws alg) where
   longer-order : Preorder (λ x y. total-delay y ≤ total-delay x)

@@ -9,7 +9,7 @@ use Rattle.netmap.specs.declared.link.Link.{Link}
 use Rattle.netmap.specs.Net.{Net, Sound}
 use Rattle.segments.specs.Paths.{IsPath, total-weight, IsBest}
 use Rattle.segments.proofs.BestPathsShort.{best-short}
-use Rattle.segments.proofs.ShortPathExtremes.{Preorder, HasFirst, ShortPath, short-first}
+use Rattle.segments.proofs.FirstShortPath.{Preorder, HasFirst, ShortPath, short-first}
 use Rattle.segments.proofs.SimplePaths.{simple, simple-short}
 
 -- the lighter path, and of paths of one weight the first by Q

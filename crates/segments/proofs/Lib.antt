@@ -10,6 +10,7 @@ pub mod FiguresOnward
 pub mod FiguresSmall
 pub mod FiguresTotal
 pub mod FirstBestPath
+pub mod FirstShortPath
 pub mod FirstUnique
 pub mod GrainsRounded
 pub mod JoinedValues
@@ -29,7 +30,6 @@ pub mod RoundMade
 pub mod RoundTaken
 pub mod RoundsEnd
 pub mod SegmentsFunctional
-pub mod ShortPathExtremes
 pub mod SimplePaths
 pub mod TableSlots
 pub mod TightLinks

@@ -28,7 +28,7 @@ pub record Far (net : Net) (u v w : ℕ) : Type 0 where
 abbrev pub cell : ℕ → Option ℕ
 cell w = cond (eqb w 4294967295) None (Some w)
 
--- the slice as a table of n columns
+-- the slice as a table of n columns, where u and v have the slot u * n + v
 abbrev pub table-of : ℕ → List ℕ → ℕ → ℕ → Option ℕ
 table-of n xs u v = cell (getD xs (u * n + v) 0)
 

@@ -17,7 +17,7 @@ use tariff::Tariff;
 // Stands in a slot where there is no path.
 pub(crate) const NO_PATH: u32 = u32::MAX;
 
-// Before the first round: 0 from each node to itself.
+// Before the first round: 0 from each node to itself, and no other path.
 fn start_distances(n: usize, dist: &mut [u32])
     requires nodes { ⌜ n ≤ 64 ⌝ }
     requires sized { ⌜ n * n ≤ length (now dist) ⌝ }

@@ -22,7 +22,7 @@ pub struct Spread<V> {
     pub value: V,
 }
 
-// The figures of a segment list.
+// The figures of a segment list: its value, its delay in grains and in microseconds, and its labels.
 #[derive(Clone, Copy)]
 pub struct Figures<V> {
     pub value: V,
