@@ -9,7 +9,7 @@ use Rattle.std.specs.declared.option.Option.{Option}
 use Rattle.std.specs.declared.option.Option.the-variants.{Some, None}
 use Rattle.netmap.specs.declared.link.Link.{Link}
 use Rattle.netmap.specs.Net.{Net, Sound}
-use Rattle.segments.specs.Distances.{LeastOf, Far, cell, table-of, Measured, Known, AllKnown}
+use Rattle.segments.specs.Distances.{LeastOf, Far, no-path, cell, table-of, Measured, Known, AllKnown}
 use Rattle.segments.specs.Paths.{IsPath, total-weight, IsBest}
 use Rattle.segments.proofs.BestPathsShort.{best-small}
 use Rattle.segments.proofs.DistanceSlots.{cell-cases}
@@ -25,8 +25,8 @@ module _ (net : Net) (sound : Sound net) (n : ℕ) (xs : List ℕ) (m : Measured
     where
       known-at : (u v : ℕ) → u < n → (x : ℕ) → LeastOf (Far net u v) (cell x) → Known x
       known-at u v nu x l = ⊎-elim
-          (λ (a : (cell x ≡ Some x) × (x ≡ 4294967295 → ⊥)). let b = far-best u v x (subst (LeastOf (Far net u v)) (a .0) l) in inl (omega (arith, best-small net sound u v (b .0) (subst (λ k. u < k) (m .nodes) nu) (b .1) .0, b .2)))
-          (λ (a : (cell x ≡ None) × (x ≡ 4294967295)). inr (a .1))
+          (λ (a : (cell x ≡ Some x) × (x ≡ no-path → ⊥)). let b = far-best u v x (subst (LeastOf (Far net u v)) (a .0) l) in inl (omega (arith, best-small net sound u v (b .0) (subst (λ k. u < k) (m .nodes) nu) (b .1) .0, b .2)))
+          (λ (a : (cell x ≡ None) × (x ≡ no-path)). inr (a .1))
           (cell-cases x)
 
   -- where a path is, so is a distance

@@ -11,7 +11,7 @@ use lib.Seq.{getD-set-same, getD-set-other}
 use Rattle.std.proofs.shelf.Tests.{eq-eqb, ne-eqb}
 use Rattle.netmap.specs.declared.link.Link.{Link}
 use Rattle.segments.specs.declared.figures.Spread.{Spread}
-use Rattle.segments.specs.Distances.{delays}
+use Rattle.segments.specs.Distances.{no-path, delays}
 use Rattle.segments.specs.Relaxations.{nearer}
 use Rattle.segments.proofs.TableSlots.{delays-length, delays-set}
 
@@ -47,27 +47,27 @@ module _ (n : ℕ) (l : Link) (old new : List ℕ) where
         cancel a k v z = omega arith
 
 -- what a slot holds after a link is tried
-pub nearer-far : (best w rest : ℕ) → rest ≡ 4294967295 → best ≡ nearer best w rest
-nearer-far best w rest e = ap (λ b. cond b best (min best (w + rest))) (sym (eq-eqb rest 4294967295 e))
+pub nearer-far : (best w rest : ℕ) → rest ≡ no-path → best ≡ nearer best w rest
+nearer-far best w rest e = ap (λ b. cond b best (min best (w + rest))) (sym (eq-eqb rest no-path e))
 
-pub nearer-less : (best w rest : ℕ) → (rest ≡ 4294967295 → ⊥) → w + rest < best → w + rest ≡ nearer best w rest
-nearer-less best w rest ne h = lower ∙ ap (λ b. cond b best (min best (w + rest))) (sym (ne-eqb rest 4294967295 ne))
+pub nearer-less : (best w rest : ℕ) → (rest ≡ no-path → ⊥) → w + rest < best → w + rest ≡ nearer best w rest
+nearer-less best w rest ne h = lower ∙ ap (λ b. cond b best (min best (w + rest))) (sym (ne-eqb rest no-path ne))
   where
     lower : w + rest ≡ min best (w + rest)
     lower = omega arith
 
-pub nearer-more : (best w rest : ℕ) → (rest ≡ 4294967295 → ⊥) → best ≤ w + rest → best ≡ nearer best w rest
-nearer-more best w rest ne h = upper ∙ ap (λ b. cond b best (min best (w + rest))) (sym (ne-eqb rest 4294967295 ne))
+pub nearer-more : (best w rest : ℕ) → (rest ≡ no-path → ⊥) → best ≤ w + rest → best ≡ nearer best w rest
+nearer-more best w rest ne h = upper ∙ ap (λ b. cond b best (min best (w + rest))) (sym (ne-eqb rest no-path ne))
   where
     upper : best ≡ min best (w + rest)
     upper = omega arith
 
 -- the same of the slots of the second working slice
 module _ {V : Type 0} (n : ℕ) (l : Link) (old new : List ℕ) (v : ℕ) (xs ys : List (Spread V)) (nv : v < n) (s : SweptTo n l old new (delays xs) v) where
-  pub swept-far : ys ≡ xs → getD old (l .head * n + v) 0 ≡ 4294967295 → SweptTo n l old new (delays ys) (v + 1)
+  pub swept-far : ys ≡ xs → getD old (l .head * n + v) 0 ≡ no-path → SweptTo n l old new (delays ys) (v + 1)
   swept-far e far = subst (λ zs. SweptTo n l old new (delays zs) (v + 1)) (sym e) (swept-keep n l old new v (delays xs) nv s (nearer-far (getD (delays xs) (l .tail * n + v) 0) (l .weight) (getD old (l .head * n + v) 0) far))
 
-  module _ (best : ℕ) (is : best ≡ getD (delays xs) (l .tail * n + v) 0) (near : getD old (l .head * n + v) 0 ≡ 4294967295 → ⊥) where
+  module _ (best : ℕ) (is : best ≡ getD (delays xs) (l .tail * n + v) 0) (near : getD old (l .head * n + v) 0 ≡ no-path → ⊥) where
     pub swept-more : ys ≡ xs → best ≤ l .weight + getD old (l .head * n + v) 0 → SweptTo n l old new (delays ys) (v + 1)
     swept-more e h =
         subst (λ zs. SweptTo n l old new (delays zs) (v + 1)) (sym e)

@@ -9,7 +9,7 @@ use lib.ListN.{getD}
 use Rattle.std.proofs.shelf.Tests.{cases-eq}
 use Rattle.std.specs.declared.option.Option.{Option}
 use Rattle.std.specs.declared.option.Option.the-variants.{Some}
-use Rattle.segments.specs.Distances.{LeastOf, table-of}
+use Rattle.segments.specs.Distances.{LeastOf, no-path, table-of}
 use Rattle.segments.specs.Spreads.{lesser-of, Keyed}
 use Rattle.segments.proofs.DistanceSlots.{cell-none}
 use Rattle.segments.proofs.LeastNumbers.{least-same, least-lesser}
@@ -35,7 +35,7 @@ module _ (n : ℕ) (xs : List ℕ) (v bar i : ℕ) where
   pub keys-none : (o : Option ℕ) → ((w : ℕ) (r : Keyed n xs v bar w) → r .node ≡ i → ⊥) → LeastOf (KeyedTo n xs v bar i) o → LeastOf (KeyedTo n xs v bar (i + 1)) o
   keys-none o ne = least-same _ _ o keys-grow (λ w r. ⊎-elim (λ a. a) (λ e. absurd (ne w (r .0) e)) (keys-last w r))
 
-  pub keys-unknown : (o : Option ℕ) → getD xs (i * n + v) 0 ≡ 4294967295 → LeastOf (KeyedTo n xs v bar i) o → LeastOf (KeyedTo n xs v bar (i + 1)) o
+  pub keys-unknown : (o : Option ℕ) → getD xs (i * n + v) 0 ≡ no-path → LeastOf (KeyedTo n xs v bar i) o → LeastOf (KeyedTo n xs v bar (i + 1)) o
   keys-unknown o e = keys-none o (λ w r k. none-some (table-of n xs i v) (r .far) (cell-none _ e) (subst (λ m. table-of n xs m v ≡ Some (r .far)) k (r .at)))
 
   module _ (f : ℕ) (at : table-of n xs i v ≡ Some f) where

@@ -9,24 +9,24 @@ use Rattle.std.specs.declared.option.Option.{Option}
 use Rattle.std.specs.declared.option.Option.the-variants.{Some, None}
 use Rattle.netmap.specs.declared.link.Link.{Link}
 use Rattle.netmap.specs.Net.{Net, link-at, places}
-use Rattle.segments.specs.Distances.{LeastOf, cell}
+use Rattle.segments.specs.Distances.{LeastOf, no-path, cell}
 use Rattle.segments.specs.Relaxations.{Relaxed, Tried, TriedTo}
 use Rattle.segments.proofs.DistanceSlots.{cell-some}
 use Rattle.segments.proofs.LeastNumbers.{least-same}
 use Rattle.segments.proofs.OptionValues.{some-same, none-some}
 
--- a distance with one weight added, or no path
+-- the weights of at most 64 links, or no path
 abbrev pub Small : ℕ → Type 0
-Small w = (w ≤ 4194240) ⊎ (w ≡ 4294967295)
+Small w = (w ≤ 4194240) ⊎ (w ≡ no-path)
 
-module _ (P Q : ℕ → Type 0) (best s : ℕ) (l : LeastOf P (cell best)) (small : Small best) (fits : s < 4294967295) (up : (w : ℕ) → P w → Q w) (down : (w : ℕ) → Q w → P w ⊎ (w ≡ s)) (own : Q s) where
+module _ (P Q : ℕ → Type 0) (best s : ℕ) (l : LeastOf P (cell best)) (small : Small best) (fits : s < no-path) (up : (w : ℕ) → P w → Q w) (down : (w : ℕ) → Q w → P w ⊎ (w ≡ s)) (own : Q s) where
   least-take : s < best → LeastOf Q (cell s)
   least-take less = subst (LeastOf Q) (sym (cell-some s fits)) (
     own,
     λ y q. ⊎-elim
         (λ p. ⊎-elim
         (λ (b : best ≤ 4194240). omega (arith, subst (LeastOf P) (cell-some best (omega arith)) l .1 y p, less))
-        (λ (b : best ≡ 4294967295). absurd (subst (λ n. LeastOf P (cell n)) b l y p)) small)
+        (λ (b : best ≡ no-path). absurd (subst (λ n. LeastOf P (cell n)) b l y p)) small)
         (λ (e : y ≡ s). omega (arith, e)) (down y q),
   )
 
@@ -60,7 +60,7 @@ module _ (net : Net) (old : ℕ → ℕ → Option ℕ) (p u v : ℕ) where
     pub try-far : (o : Option ℕ) → old (l .head) v ≡ None → LeastOf (TriedTo net old p u v) o → LeastOf (TriedTo net old (p + 1) u v) o
     try-far o none = try-none o (λ w r e. none-some (old (l .head) v) (r .rest) none (ap (λ k. old (k .head) v) (sym (same-link (r .link) (r .holds .0) e (r .holds .1))) ∙ r .below))
 
-    module _ (best rest : ℕ) (tail : l .tail ≡ u) (below : old (l .head) v ≡ Some rest) (small : Small best) (fits : l .weight + rest < 4294967295) (least : LeastOf (TriedTo net old p u v) (cell best)) where
+    module _ (best rest : ℕ) (tail : l .tail ≡ u) (below : old (l .head) v ≡ Some rest) (small : Small best) (fits : l .weight + rest < no-path) (least : LeastOf (TriedTo net old p u v) (cell best)) where
       own : TriedTo net old (p + 1) u v (l .weight + rest)
       own = inr (record { link = l; holds = (p, at-p); tail = tail; rest = rest; below = below; weight = refl }, omega arith)
 

@@ -11,7 +11,7 @@ use Rattle.std.specs.declared.option.Option.the-variants.{Some, None}
 use Rattle.netmap.specs.declared.link.Link.{Link}
 use Rattle.netmap.specs.Net.{Net, Sound, link-at, places}
 use Rattle.segments.specs.declared.figures.Spread.{Spread}
-use Rattle.segments.specs.Distances.{LeastOf, cell, table-of, Known, AllKnown, Same, delays}
+use Rattle.segments.specs.Distances.{LeastOf, no-path, cell, table-of, Known, AllKnown, Same, delays}
 use Rattle.segments.specs.Relaxations.{TriedTo, Round, nearer, Swept}
 use Rattle.segments.proofs.DistanceSlots.{cell-some}
 use Rattle.segments.proofs.LinkSwept.{nearer-far, nearer-less, nearer-more}
@@ -50,7 +50,7 @@ module _ (net : Net) (n : ℕ) (old : List ℕ) (known : AllKnown n old) where
             subst (λ w. LeastOf (TriedTo net (table-of n old) (p + 1) u v) (cell w) × Small w) (nearer-far best (l .weight) rest far)
             (try-far net (table-of n old) p u v l at (cell best) (ap cell (is ∙ far)) least, small)
         tried u v best rest tail is (inl near) least small =
-            let ne : rest ≡ 4294967295 → ⊥ = λ z. omega (arith, z, near) in
+            let ne : rest ≡ no-path → ⊥ = λ z. omega (arith, z, near) in
             let below : table-of n old (l .head) v ≡ Some rest = ap cell is ∙ cell-some rest (omega (arith, near)) in
             ⊎-elim
             (λ (h : l .weight + rest < best). subst (λ w. LeastOf (TriedTo net (table-of n old) (p + 1) u v) (cell w) × Small w) (nearer-less best (l .weight) rest ne h)

@@ -12,7 +12,7 @@ use Rattle.std.proofs.shelf.Tests.{cases-eq, eq-eqb, ne-eqb}
 use Rattle.std.specs.declared.option.Option.the-variants.{Some, None}
 use Rattle.netmap.specs.declared.link.Link.{Link}
 use Rattle.netmap.specs.Net.{Net, Sound}
-use Rattle.segments.specs.Distances.{LeastOf, Far, cell, table-of, Exact, Known, AllKnown, Same}
+use Rattle.segments.specs.Distances.{LeastOf, Far, no-path, cell, table-of, Exact, Known, AllKnown, Same}
 use Rattle.segments.specs.Paths.{IsPath, total-weight, IsBest}
 use Rattle.segments.specs.Relaxations.{Near, Tried, Found, Round, first-slot, Enough}
 use Rattle.segments.proofs.BestPathsShort.{best-short, path-small}
@@ -24,10 +24,10 @@ use Rattle.segments.proofs.RoundExtends.{round-more, settled}
 use Rattle.segments.proofs.TableSlots.{by-slot, by-pair}
 
 pub first-own : (n i x : ℕ) → x ≡ 0 → i / n ≡ i % n → x ≡ first-slot n i
-first-own n i x z e = z ∙ ap (λ b. cond b 0 4294967295) (sym (eq-eqb (i / n) (i % n) e))
+first-own n i x z e = z ∙ ap (λ b. cond b 0 no-path) (sym (eq-eqb (i / n) (i % n) e))
 
-pub first-other : (n i x : ℕ) → x ≡ 4294967295 → (i / n ≡ i % n → ⊥) → x ≡ first-slot n i
-first-other n i x z ne = z ∙ ap (λ b. cond b 0 4294967295) (sym (ne-eqb (i / n) (i % n) ne))
+pub first-other : (n i x : ℕ) → x ≡ no-path → (i / n ≡ i % n → ⊥) → x ≡ first-slot n i
+first-other n i x z ne = z ∙ ap (λ b. cond b 0 no-path) (sym (ne-eqb (i / n) (i % n) ne))
 
 pub found-same : (net : Net) (k n : ℕ) (xs ys : List ℕ) → Same (n * n) xs ys → Found net k n xs → Found net k n ys
 found-same net k n xs ys same f u v nu nv = subst (λ w. LeastOf (Near net k u v) (cell w)) (same (u * n + v) (digits-lt nu nv)) (f u v nu nv)
@@ -47,10 +47,10 @@ module _ (net : Net) (sound : Sound net) where
           go [] p s e = (p, sym e)
           go (l ∷ ls) p s e = absurd (omega arith)
 
-      first : (u v : ℕ) → LeastOf (Near net 0 u v) (cell (cond (eqb u v) 0 4294967295))
+      first : (u v : ℕ) → LeastOf (Near net 0 u v) (cell (cond (eqb u v) 0 no-path))
       first u v = ⊎-elim
-          (λ (e : u ≡ v). subst (λ b. LeastOf (Near net 0 u v) (cell (cond b 0 4294967295))) (sym (eq-eqb u v e)) (record { links = []; path = e; short = omega arith; weight = refl }, λ y r. omega arith))
-          (λ (ne : u ≡ v → ⊥). subst (λ b. LeastOf (Near net 0 u v) (cell (cond b 0 4294967295))) (sym (ne-eqb u v ne)) (λ y r. ne (only u v y r .0)))
+          (λ (e : u ≡ v). subst (λ b. LeastOf (Near net 0 u v) (cell (cond b 0 no-path))) (sym (eq-eqb u v e)) (record { links = []; path = e; short = omega arith; weight = refl }, λ y r. omega arith))
+          (λ (ne : u ≡ v → ⊥). subst (λ b. LeastOf (Near net 0 u v) (cell (cond b 0 no-path))) (sym (ne-eqb u v ne)) (λ y r. ne (only u v y r .0)))
           (cases-eq u v)
 
   module _ (n : ℕ) (same : n ≡ net .nodes) where
@@ -92,11 +92,11 @@ module _ (net : Net) (sound : Sound net) where
         where
           pick : (x u v : ℕ) (ls : List Link) → u < net .nodes → v < net .nodes → IsPath net u ls v → LeastOf (Near net k u v) (cell x) → LeastOf (Far net u v) (cell x) → (ms : List Link) × IsBest net u ms v × (length ms ≤ k)
           pick x u v ls nu nv p near far = ⊎-elim
-              (λ (a : (cell x ≡ Some x) × (x ≡ 4294967295 → ⊥)).
+              (λ (a : (cell x ≡ Some x) × (x ≡ no-path → ⊥)).
               let r = subst (LeastOf (Near net k u v)) (a .0) near .0 in
               let f = subst (LeastOf (Far net u v)) (a .0) far in
               (r .links, record { path = r .path; least = λ ms q. omega (arith, r .weight, f .1 (total-weight ms) (record { links = ms; path = q; weight = refl })) }, r .short))
-              (λ (a : (cell x ≡ None) × (x ≡ 4294967295)). absurd (subst (LeastOf (Far net u v)) (a .0) far (total-weight ls) (record { links = ls; path = p; weight = refl })))
+              (λ (a : (cell x ≡ None) × (x ≡ no-path)). absurd (subst (LeastOf (Far net u v)) (a .0) far (total-weight ls) (record { links = ls; path = p; weight = refl })))
               (cell-cases x)
 
   -- fewer links than nodes are enough

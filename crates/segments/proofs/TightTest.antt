@@ -8,7 +8,7 @@ use lib.ListN.{getD}
 use Rattle.std.specs.declared.option.Option.the-variants.{Some, None}
 use Rattle.netmap.specs.declared.link.Link.{Link}
 use Rattle.netmap.specs.Net.{Net, Sound, link-at}
-use Rattle.segments.specs.Distances.{LeastOf, Far, table-of, Measured}
+use Rattle.segments.specs.Distances.{LeastOf, Far, no-path, table-of, Measured}
 use Rattle.segments.specs.Paths.{IsPath, Tight}
 use Rattle.segments.specs.Spreads.{TightAt}
 use Rattle.segments.proofs.DistanceSlots.{cell-some, rest-small, cell-is, cell-none}
@@ -20,7 +20,7 @@ use Rattle.segments.proofs.TightLinks.{tight-test, tight-nearer}
 module _ (net : Net) (sound : Sound net) (n : ℕ) (xs : List ℕ) (m : Measured net n xs) where
   module _ (u v p : ℕ) (nu : u < n) (nv : v < n) where
     module _ (l : Link) (at : link-at net p ≡ Some l) where
-      pub tight-rest : getD xs (l .head * n + v) 0 ≡ 4294967295 → TightAt net u v p None
+      pub tight-rest : getD xs (l .head * n + v) 0 ≡ no-path → TightAt net u v p None
       tight-rest e k here t =
           let s = some-same (link-at net p) k l here at in
           let f = path-far net sound n xs m (l .head) v (t .rest) (link-sound net sound n (m .nodes) p l at .head) nv (subst (λ j. IsPath net (j .head) (t .rest) v) s (t .best .path .2)) in
@@ -34,7 +34,7 @@ module _ (net : Net) (sound : Sound net) (n : ℕ) (xs : List ℕ) (m : Measured
           let q = tight-nearer net sound u v l (d .0) (f .0) t (d .2) (f .2) in
           ne (ap (λ k. l .weight + k) (cell-is _ (f .0) (f .1)) ∙ q .0 ∙ sym (cell-is _ (d .0) (d .1)))
 
-      pub tight-yes : l .tail ≡ u → (getD xs (l .head * n + v) 0 ≡ 4294967295 → ⊥) → l .weight + getD xs (l .head * n + v) 0 ≡ getD xs (u * n + v) 0 → Tight net u v l
+      pub tight-yes : l .tail ≡ u → (getD xs (l .head * n + v) 0 ≡ no-path → ⊥) → l .weight + getD xs (l .head * n + v) 0 ≡ getD xs (u * n + v) 0 → Tight net u v l
       tight-yes tail ne sum =
           let y = getD xs (l .head * n + v) 0 in
           let w = getD xs (u * n + v) 0 in

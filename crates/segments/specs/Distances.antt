@@ -24,9 +24,13 @@ pub record Far (net : Net) (u v w : ℕ) : Type 0 where
   pub path : IsPath net u links v
   pub weight : total-weight links ≡ w
 
--- what a slot holds: a distance, or the largest number where there is no path
+-- stands in a slot where there is no path
+abbrev pub no-path : ℕ
+no-path = 4294967295
+
+-- what a slot holds
 abbrev pub cell : ℕ → Option ℕ
-cell w = cond (eqb w 4294967295) None (Some w)
+cell w = cond (eqb w no-path) None (Some w)
 
 -- the slice as a table of n columns, where u and v have the slot u * n + v
 abbrev pub table-of : ℕ → List ℕ → ℕ → ℕ → Option ℕ
@@ -42,9 +46,9 @@ pub record Measured (net : Net) (n : ℕ) (xs : List ℕ) : Type 0 where
   pub sized : n * n ≤ length xs
   pub exact : Exact net n xs
 
--- a distance to which a weight may still be added, or no path
+-- the weights of at most 63 links, or no path
 abbrev pub Known : ℕ → Type 0
-Known w = (w ≤ 4128705) ⊎ (w ≡ 4294967295)
+Known w = (w ≤ 4128705) ⊎ (w ≡ no-path)
 
 -- each slot below n * n
 abbrev pub AllKnown : ℕ → List ℕ → Type 0

@@ -12,6 +12,7 @@ use Rattle.segments.specs.declared.figures.Hop.{Hop}
 use Rattle.segments.specs.declared.figures.Spread.{Spread}
 use Rattle.segments.specs.declared.figures.Walk.{Walk}
 use Rattle.segments.specs.Algebra.{Algebra}
+use Rattle.segments.specs.Distances.{no-path}
 use Rattle.segments.specs.Segments.{Segment, grains-of}
 use Rattle.segments.specs.Spreads.{slot}
 
@@ -28,8 +29,8 @@ module _ {V : Type 0} where
 
   -- the figures in a slot, if there is a distance
   abbrev pub NodeHop : Algebra V → List ℕ → List (Spread V) → ℕ → ℕ → Option (Hop V) → Type 0
-  NodeHop alg dist spread place c (Some h) = (getD dist place 0 ≡ 4294967295 → ⊥) × (h .to ≡ c) × (h .delay .0 ≡ slot alg spread place .delay .0) × (h .value ≡ slot alg spread place .value)
-  NodeHop alg dist spread place c None = getD dist place 0 ≡ 4294967295
+  NodeHop alg dist spread place c (Some h) = (getD dist place 0 ≡ no-path → ⊥) × (h .to ≡ c) × (h .delay .0 ≡ slot alg spread place .delay .0) × (h .value ≡ slot alg spread place .value)
+  NodeHop alg dist spread place c None = getD dist place 0 ≡ no-path
 
   pub record Along (net : Net) (alg : Algebra V) (place : ℕ) (h : Hop V) : Type 0 where
     pub link : Link

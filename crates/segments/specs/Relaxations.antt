@@ -10,7 +10,7 @@ use Rattle.std.specs.declared.option.Option.{Option}
 use Rattle.std.specs.declared.option.Option.the-variants.{Some}
 use Rattle.netmap.specs.declared.link.Link.{Link}
 use Rattle.netmap.specs.Net.{Net}
-use Rattle.segments.specs.Distances.{LeastOf, table-of}
+use Rattle.segments.specs.Distances.{LeastOf, no-path, table-of}
 use Rattle.segments.specs.Paths.{Holds, IsPath, total-weight, IsBest}
 
 module _ (net : Net) where
@@ -48,7 +48,7 @@ Round net n old new = (u v : ℕ) → u < n → v < n → LeastOf (Tried net (ta
 
 -- the lesser of what a slot holds and a weight with the distance behind it
 abbrev pub nearer : ℕ → ℕ → ℕ → ℕ
-nearer best weight rest = cond (eqb rest 4294967295) best (min best (weight + rest))
+nearer best weight rest = cond (eqb rest no-path) best (min best (weight + rest))
 
 -- a link is tried in the row of its tail, and the other rows stay
 pub record Swept (n : ℕ) (l : Link) (old new after : List ℕ) : Type 0 where
@@ -57,7 +57,7 @@ pub record Swept (n : ℕ) (l : Link) (old new after : List ℕ) : Type 0 where
 
 -- before the first round: the way from each node to itself
 abbrev pub first-slot : ℕ → ℕ → ℕ
-first-slot n i = cond (eqb (i / n) (i % n)) 0 4294967295
+first-slot n i = cond (eqb (i / n) (i % n)) 0 no-path
 
 -- where a path is, a best path of at most k links is
 abbrev pub Enough : Net → ℕ → Type 0
