@@ -11,12 +11,11 @@ use lib.Seq.{getD-set-same, getD-set-other}
 use Rattle.std.proofs.shelf.Bits.{mul-le}
 use Rattle.std.proofs.shelf.Tests.{cases-eq, cases-lt}
 use Rattle.std.specs.declared.option.Option.the-variants.{Some, None}
-use Rattle.netmap.specs.declared.link.Link.{Link}
 use Rattle.netmap.specs.Net.{Net, Sound}
 use Rattle.segments.specs.declared.figures.Spread.{Spread}
 use Rattle.segments.specs.Algebra.{Algebra}
 use Rattle.segments.specs.Distances.{LeastOf, cell, table-of, Measured, Known}
-use Rattle.segments.specs.Paths.{IsPath, Reached, Ecmp}
+use Rattle.segments.specs.Paths.{Reached, Ecmp}
 use Rattle.segments.specs.Spreads.{Keyed, slot, HasFigures, HeadsFigured, ColumnFigured, Figured, Spared}
 use Rattle.segments.proofs.DistanceSlots.{cell-is, cell-none}
 use Rattle.segments.proofs.ExactDistances.{exact-known, path-far, far-path}
@@ -54,8 +53,8 @@ module _ {V : Type 0} (net : Net) (alg : Algebra V) (n : ℕ) (dist : List ℕ) 
 
   module _ (sound : Sound net) (m : Measured net n dist) (nv : v < n) (bar : ℕ) (xs : List (Spread V)) (filled : FilledTo bar xs) where
     pub filled-all : LeastOf (Keyed n dist v bar) None → ColumnFigured net alg n xs v
-    filled-all none u ls nu p =
-        let f = path-far net sound n dist m u v ls nu nv p in
+    filled-all none u nu r =
+        let f = path-far net sound n dist m u v (r .0) nu nv (r .1) in
         ⊎-elim (λ (h : f .0 * n + u < bar). filled u (f .0) nu (f .1) h)
         (λ (h : bar ≤ f .0 * n + u). absurd (none (f .0 * n + u) (record { node = u; below = nu; far = f .0; at = f .1; is = refl; from = h })))
         (cases-lt (f .0 * n + u) bar)
@@ -105,16 +104,16 @@ module _ {V : Type 0} (net : Net) (alg : Algebra V) (n : ℕ) (dist : List ℕ) 
 module _ {V : Type 0} (net : Net) (alg : Algebra V) (n : ℕ) where
   -- the columns below a number are filled
   abbrev pub ColumnsTo : ℕ → List (Spread V) → Type 0
-  ColumnsTo m xs = (u v : ℕ) (ls : List Link) → u < n → v < m → IsPath net u ls v → HasFigures net alg n xs u v
+  ColumnsTo m xs = (u v : ℕ) → u < n → v < m → Reached net u v → HasFigures net alg n xs u v
 
   pub columns-more : (v : ℕ) (xs ys : List (Spread V)) → v < n → ColumnsTo v xs → ColumnFigured net alg n ys v → Spared alg n v xs ys → ColumnsTo (v + 1) ys
-  columns-more v xs ys nv old new spared u b ls nu h p = ⊎-elim
-      (λ (e : b ≡ v). subst (λ m. HasFigures net alg n ys u m) (sym e) (new u ls nu (subst (λ m. IsPath net u ls m) e p)))
-      (λ (ne : b ≡ v → ⊥). let k : b < v = below-last b v h ne in subst (λ (s : Spread V). Ecmp net alg u b (s .delay .0) (s .value)) (sym (spared u b (omega arith) ne)) (old u b ls nu k p))
+  columns-more v xs ys nv old new spared u b nu h r = ⊎-elim
+      (λ (e : b ≡ v). subst (λ m. HasFigures net alg n ys u m) (sym e) (new u nu (subst (Reached net u) e r)))
+      (λ (ne : b ≡ v → ⊥). let k : b < v = below-last b v h ne in subst (λ (s : Spread V). Ecmp net alg u b (s .delay .0) (s .value)) (sym (spared u b (omega arith) ne)) (old u b nu k r))
       (cases-eq b v)
     where
       below-last : (b v : ℕ) → b < v + 1 → (b ≡ v → ⊥) → b < v
       below-last b v h ne = omega arith
 
   pub columns-all : (m : ℕ) (xs : List (Spread V)) → n ≤ m → ColumnsTo m xs → Figured net alg n xs
-  columns-all m xs past f u v ls nu nv p = f u v ls nu (omega arith) p
+  columns-all m xs past f u v nu nv r = f u v nu (omega arith) r

@@ -30,7 +30,7 @@ module _ {V : Type 0} (net : Net) (alg : Algebra V) (sound : Sound net) (n : ℕ
   pub entry-node : c < 64 → c < n → (c ≡ u → ⊥) → (o : Option (Hop V)) → NodeHop alg dist spread (u * n + c) c o → Entry net alg u c o
   entry-node range nc ne (Some l) s =
       let b = far-path net sound n dist (routed .measured) u c (getD dist (u * n + c) 0) nu nc (cell-full (getD dist (u * n + c) 0) (s .0)) in
-      let f = routed .figured u c (b .0) nu nc (b .1 .path) in
+      let f = routed .figured u c nu nc (b .0, b .1 .path) in
       inl (record {
         range = range;
         other = λ e. ne (sym e);

@@ -81,14 +81,14 @@ module _ (net : Net) (sound : Sound net) where
         pub enough-still : (j : ℕ) → Enough net j → j ≤ k → Same (n * n) old new
         enough-still j en le = by-slot n (λ u v i. getD old i 0 ≡ getD new i 0) (λ u v nu nv. cell-once _ _ (least-once (Near net k u v) (Near net (k + 1) u v) (table-of n old u v) (table-of n new u v) (found u v nu nv) (round-found u v nu nv)
             (λ w r. (w, record { links = r .links; path = r .path; short = omega (arith, r .short); weight = r .weight }, omega arith))
-            (λ w r. let b = en u v (r .links) (of-net u nu) (r .path) in
+            (λ w r. let b = en u v (of-net u nu) (r .links, r .path) in
             (total-weight (b .0), record { links = b .0; path = b .1 .path; short = omega (arith, b .2); weight = refl }, omega (arith, b .1 .least (r .links) (r .path), r .weight)))))
 
       -- distances that paths of at most k links have
       pub found-enough : Exact net n old → Enough net k
-      found-enough exact u v ls nu p =
-          let nv = path-node net sound u v ls nu p in
-          pick (getD old (u * n + v) 0) u v ls nu nv p (found-net u v nu nv) (exact u v (node u nu) (node v nv))
+      found-enough exact u v nu r =
+          let nv = path-node net sound u v (r .0) nu (r .1) in
+          pick (getD old (u * n + v) 0) u v (r .0) nu nv (r .1) (found-net u v nu nv) (exact u v (node u nu) (node v nv))
         where
           pick : (x u v : ℕ) (ls : List Link) → u < net .nodes → v < net .nodes → IsPath net u ls v → LeastOf (Near net k u v) (cell x) → LeastOf (Far net u v) (cell x) → (ms : List Link) × IsBest net u ms v × (length ms ≤ k)
           pick x u v ls nu nv p near far = ⊎-elim
@@ -101,6 +101,6 @@ module _ (net : Net) (sound : Sound net) where
 
   -- fewer links than nodes are enough
   pub enough-all : (n : ℕ) → n ≡ net .nodes → Enough net (n - 1)
-  enough-all n same u v ls nu p =
-      let b = first-best net sound (λ x y. Unit {0}) (record { total = λ x y. inl tt; trans = λ x y z a b. tt }) u v ls nu p in
+  enough-all n same u v nu r =
+      let b = first-best net sound (λ x y. Unit {0}) (record { total = λ x y. inl tt; trans = λ x y z a b. tt }) u v (r .0) nu (r .1) in
       (b .0, b .1, omega (arith, best-short net sound u v (b .0) nu (b .1), same))

@@ -11,7 +11,7 @@ use Rattle.std.specs.declared.option.Option.the-variants.{Some}
 use Rattle.netmap.specs.declared.link.Link.{Link}
 use Rattle.netmap.specs.Net.{Net}
 use Rattle.segments.specs.Distances.{LeastOf, no-path, table-of}
-use Rattle.segments.specs.Paths.{Holds, IsPath, total-weight, IsBest}
+use Rattle.segments.specs.Paths.{Holds, IsPath, Reached, total-weight, IsBest}
 
 module _ (net : Net) where
   -- a path of at most k links has the weight
@@ -61,7 +61,7 @@ first-slot n i = cond (eqb (i / n) (i % n)) 0 no-path
 
 -- where a path is, a best path of at most k links is
 abbrev pub Enough : Net → ℕ → Type 0
-Enough net k = (u v : ℕ) (ls : List Link) → u < net .nodes → IsPath net u ls v → (ms : List Link) × IsBest net u ms v × (length ms ≤ k)
+Enough net k = (u v : ℕ) → u < net .nodes → Reached net u v → (ms : List Link) × IsBest net u ms v × (length ms ≤ k)
 
 -- one round more than the fewest links that are enough
 pub record Rounds (net : Net) (r : ℕ) : Type 0 where

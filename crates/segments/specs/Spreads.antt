@@ -11,7 +11,7 @@ use Rattle.netmap.specs.Net.{Net, link-at}
 use Rattle.segments.specs.declared.figures.Spread.{Spread}
 use Rattle.segments.specs.Algebra.{Algebra}
 use Rattle.segments.specs.Distances.{table-of, Measured}
-use Rattle.segments.specs.Paths.{IsPath, Tight, Ecmp}
+use Rattle.segments.specs.Paths.{Reached, Tight, Ecmp}
 
 -- the link at a place if it begins a best path, else nothing
 abbrev pub TightAt : Net → ℕ → ℕ → ℕ → Option Link → Type 0
@@ -57,11 +57,11 @@ module _ {V : Type 0} where
 
   -- so have those of each node from which a path leads to v
   abbrev pub ColumnFigured : Net → Algebra V → ℕ → List (Spread V) → ℕ → Type 0
-  ColumnFigured net alg n xs v = (u : ℕ) (ls : List Link) → u < n → IsPath net u ls v → HasFigures net alg n xs u v
+  ColumnFigured net alg n xs v = (u : ℕ) → u < n → Reached net u v → HasFigures net alg n xs u v
 
   -- so have those of each pair of n nodes that a path joins
   abbrev pub Figured : Net → Algebra V → ℕ → List (Spread V) → Type 0
-  Figured net alg n xs = (u v : ℕ) (ls : List Link) → u < n → v < n → IsPath net u ls v → HasFigures net alg n xs u v
+  Figured net alg n xs = (u v : ℕ) → u < n → v < n → Reached net u v → HasFigures net alg n xs u v
 
   -- all columns but one are as they were
   abbrev pub Spared : Algebra V → ℕ → ℕ → List (Spread V) → List (Spread V) → Type 0
