@@ -120,8 +120,8 @@ fn follow<M: Map, V: Tariff>(
     ensures { λ r. ⌜ WalkReply (M·Map .meaning (now (map .entry))) (algebra (V·Ranking .good) (V·Tariff .joining)) source (grain .0) (now (list .entry)) r ⌝ }
 {
     let mut walked = stay(source);
-    for i in 0..list.len() {
-        match entry(map, n, dist, spread, walked.end as usize, list[i]) {
+    for (i, code) in list.iter().enumerate() {
+        match entry(map, n, dist, spread, walked.end as usize, *code) {
             Some(hop) => walked = extend(walked, hop, grain),
             None => return Err(Denial {
                 question: Question::EntryLegal,
