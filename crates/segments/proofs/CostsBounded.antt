@@ -9,7 +9,7 @@ use Rattle.netmap.specs.declared.link.Link.{Link}
 use Rattle.netmap.specs.Net.{Net, Sound}
 use Rattle.tariff.specs.Costs.{cheaper, costs, cost-of}
 use Rattle.tariff.specs.declared.cost.Cost.{Cost}
-use Rattle.segments.specs.declared.figures.Hop.{Hop}
+use Rattle.segments.specs.declared.figures.Leg.{Leg}
 use Rattle.segments.specs.Algebra.{Algebra, algebra, joined-from}
 use Rattle.segments.specs.Paths.{total-weight, path-value}
 use Rattle.segments.specs.Segments.{Segment, SegmentList}
@@ -37,14 +37,14 @@ path-cost ls = omega (arith, joined-weights (cost-of 0) (map (λ l. cost-of (l .
 
 module _ (net : Net) (sound : Sound net) where
   -- 63 links of a weight of 65,535
-  segment-cost : (u c : ℕ) (h : Hop Cost) → Segment net cost-algebra u c h → h .value .weight ≤ 4128705
+  segment-cost : (u c : ℕ) (h : Leg Cost) → Segment net cost-algebra u c h → h .value .weight ≤ 4128705
   segment-cost u c h (inl s) =
       let b = s .spread .value-met in
       let nu = tail-node net sound u c (b .0) (s .other) (b .1 .path) in
       omega (arith, ap (λ x. x .weight) (b .2), path-cost (b .0), best-small net sound u c (b .0) nu (b .1) .0)
   segment-cost u c h (inr s) = omega (arith, ap (λ x. x .weight) (s .value), sound .each (c - 256) (s .link) (s .filled) .weight-high)
 
-  list-weights : (u : ℕ) (cs : List ℕ) (hs : List (Hop Cost)) → SegmentList net cost-algebra u cs hs → weights (map (λ h. h .value) hs) ≤ 4128705 * length cs
+  list-weights : (u : ℕ) (cs : List ℕ) (hs : List (Leg Cost)) → SegmentList net cost-algebra u cs hs → weights (map (λ h. h .value) hs) ≤ 4128705 * length cs
   list-weights u [] [] p = omega arith
   list-weights u [] (h ∷ hs) p = absurd p
   list-weights u (c ∷ cs) [] p = absurd p

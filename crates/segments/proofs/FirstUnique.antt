@@ -4,7 +4,7 @@ use mathlib.Core.List.{List, List-discrete}
 use Prim.Native.Nat.{ℕ}
 use native.Mathlib.Decide.{ℕ-discrete}
 use Rattle.netmap.specs.Net.{Net}
-use Rattle.segments.specs.declared.figures.Hop.{Hop}
+use Rattle.segments.specs.declared.figures.Leg.{Leg}
 use Rattle.segments.specs.declared.order.Order.{Order}
 use Rattle.segments.specs.Algebra.{Algebra, Laws}
 use Rattle.segments.specs.Orders.{First}
@@ -14,7 +14,7 @@ use Rattle.segments.proofs.PrecedenceStrict.{precedence-strict}
 use Rattle.segments.proofs.SegmentsFunctional.{lists-functional}
 
 module _ {V : Type 0} (alg : Algebra V) (lawful : Laws alg) where
-  same-list : (net : Net) (o : Order) (cs ds : List ℕ) (hs ks : List (Hop V)) → First net alg o cs hs → First net alg o ds ks → cs ≡ ds
+  same-list : (net : Net) (o : Order) (cs ds : List ℕ) (hs ks : List (Leg V)) → First net alg o cs hs → First net alg o ds ks → cs ≡ ds
   same-list net o cs ds hs ks p s =
       let strict = precedence-strict alg lawful (o .grain .0) in
       elim (List-discrete ℕ-discrete cs ds) [ yes e ↦ e | no n ↦ absurd (strict .irreflexive cs hs (strict .transitive cs ds cs hs ks hs (p .first ds ks (s .within) (λ e. n (sym e))) (s .first cs hs (p .within) n))) ]

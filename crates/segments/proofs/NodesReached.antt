@@ -6,7 +6,7 @@ use Prim.Native.Nat.{ℕ, _-_, _≤_, _<_}
 use Rattle.std.specs.declared.option.Option.the-variants.{Some}
 use Rattle.netmap.specs.declared.link.Link.{Link}
 use Rattle.netmap.specs.Net.{Net, Sound, link-at, Sound-link}
-use Rattle.segments.specs.declared.figures.Hop.{Hop}
+use Rattle.segments.specs.declared.figures.Leg.{Leg}
 use Rattle.segments.specs.Algebra.{Algebra}
 use Rattle.segments.specs.Paths.{IsPath}
 use Rattle.segments.specs.Segments.{Segment}
@@ -15,7 +15,7 @@ pub path-node : (net : Net) → Sound net → (u v : ℕ) (ls : List Link) → u
 path-node net sound u v [] h p = subst (λ n. n < net .nodes) p h
 path-node net sound u v (l ∷ ls) h p = path-node net sound (l .head) v ls (sound .each (p .0 .0) l (p .0 .1) .head) (p .2)
 
-pub segment-node : {V : Type 0} (net : Net) (alg : Algebra V) → Sound net → (u c : ℕ) (h : Hop V) → u < net .nodes → Segment net alg u c h → h .to < net .nodes
+pub segment-node : {V : Type 0} (net : Net) (alg : Algebra V) → Sound net → (u c : ℕ) (h : Leg V) → u < net .nodes → Segment net alg u c h → h .to < net .nodes
 segment-node net alg sound u c h node (inl s) =
     subst (λ n. n < net .nodes) (sym (s .to)) (path-node net sound u c (s .spread .delay-met .0) node (s .spread .delay-met .1 .path))
 segment-node net alg sound u c h node (inr s) =

@@ -3,19 +3,18 @@ use mathlib.Core.Path.{_≡_, refl, sym, subst}
 use mathlib.Core.List.{List}
 use Prim.Native.Nat.{ℕ, _*_, _≤_, _<_}
 use lib.Dec.{leb}
+use lib.ListN.{length}
 use Rattle.std.proofs.shelf.Tests.{ltb-true, leb-true, and-parts}
-use Rattle.std.specs.declared.option.Option.{Option}
-use Rattle.std.specs.declared.option.Option.the-variants.{Some}
 use Rattle.std.specs.declared.result.Result.{Result}
 use Rattle.std.specs.declared.result.Result.the-variants.{Ok, Err}
 use Rattle.netmap.specs.declared.denial.Denial.{Denial}
 use Rattle.netmap.specs.Net.{Net}
 use Rattle.netmap.specs.Asking.{reply}
-use Rattle.netmap.proofs.Asking.{granted, all-yes}
+use Rattle.netmap.proofs.Asking.{granted, denied, all-yes}
 use Rattle.segments.specs.declared.figures.Spread.{Spread}
 use Rattle.segments.specs.declared.figures.Walk.{Walk}
 use Rattle.segments.specs.Algebra.{Algebra}
-use Rattle.segments.specs.Walks.{walk-questions, walk-denial, WalkBy}
+use Rattle.segments.specs.Walks.{walk-questions, walk-denial, WalkBy, WalkCall}
 
 -- where no question is answered no
 pub record Admitted (n source grain dist spread count : ℕ) : Type 0 where
@@ -40,5 +39,9 @@ admitted n source grain dist spread count e =
       short = leb-true count 10 (y .1 .1 .1 .0);
     }
 
-pub walk-denied : {V : Type 0} (net : Net) (alg : Algebra V) (source grain : ℕ) (cs dist : List ℕ) (spread : List (Spread V)) (d : Option Denial) (x : Denial) (r : Result (Walk V) Denial) → d ≡ Some x → r ≡ Err x → WalkBy net alg source grain cs d dist dist spread spread r
-walk-denied net alg source grain cs dist spread d x r e q = subst (λ o. WalkBy net alg source grain cs o dist dist spread spread r) (sym e) (q, refl, refl)
+pub walk-denied : {V : Type 0} (net : Net) (alg : Algebra V) (source grain : ℕ) (cs dist : List ℕ) (spread : List (Spread V)) (n : ℕ) → n ≡ net .nodes → (x : Denial) (r : Result (Walk V) Denial)
+    → _≡_ {A = Result (Unit {0}) Denial} (Err x) (reply (walk-denial n source grain (length dist) (length spread) (length cs)) tt) → r ≡ Err x → WalkCall net alg source grain cs dist dist spread spread r
+walk-denied net alg source grain cs dist spread n nodes x r e q =
+    let d = denied (walk-denial n source grain (length dist) (length spread) (length cs)) x tt e in
+    subst (λ k. WalkBy net alg source grain cs (walk-denial k source grain (length dist) (length spread) (length cs)) dist dist spread spread r) nodes
+    (subst (λ o. WalkBy net alg source grain cs o dist dist spread spread r) (sym d) (q, refl, refl))

@@ -7,7 +7,7 @@ use lib.ListN.{length, getD, take}
 use Rattle.std.proofs.shelf.Lists.{take-more, take-all, length-push}
 use Rattle.std.specs.declared.option.Option.the-variants.{Some, None}
 use Rattle.netmap.specs.Net.{Net, Sound}
-use Rattle.segments.specs.declared.figures.Hop.{Hop}
+use Rattle.segments.specs.declared.figures.Leg.{Leg}
 use Rattle.segments.specs.declared.figures.Walk.{Walk}
 use Rattle.segments.specs.Algebra.{Algebra}
 use Rattle.segments.specs.Entries.{Entry, Extended}
@@ -28,18 +28,18 @@ module _ {V : Type 0} (net : Net) (alg : Algebra V) (source grain : ℕ) (cs : L
     pub labels : w .figures .labels .0 ≡ i
 
   module _ (sound : Sound net) (coarse : 1 ≤ grain) (i : ℕ) (within : i < length cs) (w : Walk V) (so : WalkedTo i w) where
-    pub walked-more : (h : Hop V) (r : Walk V) → Entry net alg (w .end) (getD cs i 0) (Some h) → Extended alg grain w h r → WalkedTo (i + 1) r
+    pub walked-more : (h : Leg V) (r : Walk V) → Entry net alg (w .end) (getD cs i 0) (Some h) → Extended alg grain w h r → WalkedTo (i + 1) r
     walked-more h r s x =
         let k = so .walked in
         let small = segment-small net alg sound (w .end) (getD cs i 0) h (so .end) s in
         record {
           walked = subst (λ ds. Walked net alg source grain ds r) (sym (take-more cs i 0 within)) (record {
-            hops = k .hops ++ h ∷ [];
-            legal = legal-push net alg source (getD cs i 0) (take i cs) h (k .hops) (k .legal) (subst (λ m. Segment net alg m (getD cs i 0) h) (k .end) s);
-            end = x .end ∙ sym (end-push source h (k .hops));
-            value = x .value ∙ ap (λ y. alg .join y (h .value)) (k .value) ∙ sym (value-push alg h (k .hops));
-            grains = x .grains ∙ ap (λ m. m + grains-of grain (h .delay .0)) (k .grains) ∙ sym (grains-push grain h (k .hops));
-            delay = x .delay ∙ ap (λ m. m + h .delay .0) (k .delay) ∙ sym (delay-push h (k .hops));
+            legs = k .legs ++ h ∷ [];
+            legal = legal-push net alg source (getD cs i 0) (take i cs) h (k .legs) (k .legal) (subst (λ m. Segment net alg m (getD cs i 0) h) (k .end) s);
+            end = x .end ∙ sym (end-push source h (k .legs));
+            value = x .value ∙ ap (λ y. alg .join y (h .value)) (k .value) ∙ sym (value-push alg h (k .legs));
+            grains = x .grains ∙ ap (λ m. m + grains-of grain (h .delay .0)) (k .grains) ∙ sym (grains-push grain h (k .legs));
+            delay = x .delay ∙ ap (λ m. m + h .delay .0) (k .delay) ∙ sym (delay-push h (k .legs));
             labels = x .labels ∙ ap (λ m. m + 1) (k .labels) ∙ sym (length-push (take i cs) (getD cs i 0));
           });
           end = subst (λ m. m < net .nodes) (sym (x .end)) (segment-node net alg sound (w .end) (getD cs i 0) h (so .end) s);
@@ -51,7 +51,7 @@ module _ {V : Type 0} (net : Net) (alg : Algebra V) (source grain : ℕ) (cs : L
     pub walked-stuck : Entry net alg (w .end) (getD cs i 0) None → Stuck net alg source grain cs i
     walked-stuck none = record {
       inside = within;
-      hops = so .walked .hops;
+      legs = so .walked .legs;
       legal = so .walked .legal;
       illegal = λ h s. none h (subst (λ m. Segment net alg m (getD cs i 0) h) (sym (so .walked .end)) s);
     }

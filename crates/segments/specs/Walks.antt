@@ -15,7 +15,7 @@ use Rattle.netmap.specs.declared.denial.Question.the-variants.{OrderNodes, Grai
 use Rattle.netmap.specs.Net.{Net}
 use Rattle.netmap.specs.Denials.{told}
 use Rattle.netmap.specs.Asking.{Asked, asks, first-no}
-use Rattle.segments.specs.declared.figures.Hop.{Hop}
+use Rattle.segments.specs.declared.figures.Leg.{Leg}
 use Rattle.segments.specs.declared.figures.Spread.{Spread}
 use Rattle.segments.specs.declared.figures.Walk.{Walk}
 use Rattle.segments.specs.Algebra.{Algebra}
@@ -41,20 +41,20 @@ walk-denial n source grain dist spread count = first-no (walk-questions n source
 module _ {V : Type 0} (net : Net) (alg : Algebra V) (source grain : ℕ) (cs : List ℕ) where
   -- the list is legal, and w has its end and its figures
   pub record Walked (w : Walk V) : Type 0 where
-    pub hops : List (Hop V)
-    pub legal : SegmentList net alg source cs hops
-    pub end : w .end ≡ list-end source hops
-    pub value : w .figures .value ≡ list-value alg hops
-    pub grains : w .figures .grains .0 ≡ list-grains grain hops
-    pub delay : w .figures .delay .0 ≡ list-delay hops
+    pub legs : List (Leg V)
+    pub legal : SegmentList net alg source cs legs
+    pub end : w .end ≡ list-end source legs
+    pub value : w .figures .value ≡ list-value alg legs
+    pub grains : w .figures .grains .0 ≡ list-grains grain legs
+    pub delay : w .figures .delay .0 ≡ list-delay legs
     pub labels : w .figures .labels .0 ≡ length cs
 
   -- the entries before the index are legal, and the one there is not
   pub record Stuck (i : ℕ) : Type 0 where
     pub inside : i < length cs
-    pub hops : List (Hop V)
-    pub legal : SegmentList net alg source (take i cs) hops
-    pub illegal : (h : Hop V) → Segment net alg (list-end source hops) (getD cs i 0) h → ⊥
+    pub legs : List (Leg V)
+    pub legal : SegmentList net alg source (take i cs) legs
+    pub illegal : (h : Leg V) → Segment net alg (list-end source legs) (getD cs i 0) h → ⊥
 
   abbrev pub WalkReply : Result (Walk V) Denial → Type 0
   WalkReply (Ok w) = Walked w

@@ -9,7 +9,7 @@ use tariff::Tariff;
 
 // What an entry does at a node where it is legal: the node that it leads to, its delay and its value.
 #[derive(Clone, Copy)]
-pub struct Hop<V> {
+pub struct Leg<V> {
     pub to: u8,
     pub delay: Microseconds,
     pub value: V,

@@ -11,7 +11,7 @@ pub mod units;
 pub mod walking;
 
 pub use figures::Figures;
-pub use figures::Hop;
+pub use figures::Leg;
 pub use figures::Spread;
 pub use figures::Walk;
 pub use order::Order;

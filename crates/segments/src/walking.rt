@@ -11,7 +11,7 @@ ghost use Rattle.segments.specs.Spreads.{Routed};
 ghost use Rattle.segments.specs.Walks.{WalkCall, WalkReply, walk-denial as walkDenial};
 use crate::entry::entry;
 use crate::figures::Figures;
-use crate::figures::Hop;
+use crate::figures::Leg;
 use crate::figures::Spread;
 use crate::figures::Walk;
 use crate::routing::route;
@@ -82,22 +82,22 @@ fn stay<V: Tariff>(source: u8) -> Walk<V>
 }
 
 // One entry more: delays add up, and each is rounded up to grains by itself.
-fn extend<V: Tariff>(walked: Walk<V>, hop: Hop<V>, grain: Microseconds) -> Walk<V>
+fn extend<V: Tariff>(walked: Walk<V>, leg: Leg<V>, grain: Microseconds) -> Walk<V>
     requires grain { ⌜ 1 ≤ grain .0 ⌝ }
-    requires step { ⌜ hop .delay .0 ≤ 6300000 ⌝ }
+    requires step { ⌜ leg .delay .0 ≤ 6300000 ⌝ }
     requires delay { ⌜ walked .figures .delay .0 ≤ 63000000 ⌝ }
     requires grains { ⌜ walked .figures .grains .0 ≤ 63000000 ⌝ }
     requires labels { ⌜ walked .figures .labels .0 ≤ 10 ⌝ }
-    ensures { λ r. ⌜ Extended (algebra (V·Ranking .good) (V·Tariff .joining)) (grain .0) walked hop r ⌝ }
+    ensures { λ r. ⌜ Extended (algebra (V·Ranking .good) (V·Tariff .joining)) (grain .0) walked leg r ⌝ }
 {
     let figures = walked.figures;
-    let steps = round_up(hop.delay, grain);
+    let steps = round_up(leg.delay, grain);
     Walk {
-        end: hop.to,
+        end: leg.to,
         figures: Figures {
-            value: figures.value.join(hop.value),
+            value: figures.value.join(leg.value),
             grains: Grains(figures.grains.0 + steps.0),
-            delay: Microseconds(figures.delay.0 + hop.delay.0),
+            delay: Microseconds(figures.delay.0 + leg.delay.0),
             labels: Labels(figures.labels.0 + 1),
         },
     }
@@ -122,7 +122,7 @@ fn follow<M: Map, V: Tariff>(
     let mut walked = stay(source);
     for (i, code) in list.iter().enumerate() {
         match entry(map, n, dist, spread, walked.end as usize, *code) {
-            Some(hop) => walked = extend(walked, hop, grain),
+            Some(leg) => walked = extend(walked, leg, grain),
             None => return Err(Denial {
                 question: Question::EntryLegal,
                 layer: Layer::List,

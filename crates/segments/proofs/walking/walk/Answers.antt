@@ -1,12 +1,8 @@
-use mathlib.Core.Path.{_≡_, ap, _∙_, subst}
+use mathlib.Core.Path.{ap, _∙_}
 use lib.ListN.{length}
 use Rattle.std.proofs.shelf.Results.{err-from-errBy}
-use Rattle.std.specs.declared.option.Option.the-variants.{Some}
 use Rattle.std.specs.declared.result.Result.the-variants.{Err}
-use Rattle.netmap.specs.Asking.{reply}
-use Rattle.netmap.proofs.Asking.{denied}
 use Rattle.segments.specs.Algebra.{algebra}
-use Rattle.segments.specs.Walks.{walk-denial}
 use Rattle.segments.proofs.WalkAdmitted.{admitted, walk-denied}
 use Rattle.segments.proofs.walking.walk.Needs as need
 
@@ -25,7 +21,5 @@ returns-in-Break-check-walk g c =
     let net = g .M·Map .meaning (c .args .map .now) in
     let alg = algebra (g .V·Ranking .good) (g .V·Tariff .joining) in
     let x = c .in-Break-check-walk .field-0 .0 in
-    let d = walk-denial (net .nodes) (c .args .source) (c .args .grain .0) (length (c .args .dist .now)) (length (c .args .spread .now)) (length (c .args .list .now)) in
-    let some : d ≡ Some x = denied d x tt (subst (λ n. Err x ≡ reply (walk-denial n (c .args .source) (c .args .grain .0) (length (c .args .dist .now)) (length (c .args .spread .now)) (length (c .args .list .now))) tt) (c .nodes-n .ensures) (c .in-Break-check-walk .ensures tt)) in
     let out = err-from-errBy (c .from-residual .result) (c .from-residual .ensures .1) in
-    walk-denied net alg (c .args .source) (c .args .grain .0) (c .args .list .now) (c .args .dist .now) (c .args .spread .now) d x (c .from-residual .result) some (out .1 ∙ ap Err (out .2))
+    walk-denied net alg (c .args .source) (c .args .grain .0) (c .args .list .now) (c .args .dist .now) (c .args .spread .now) (c .nodes-n .result) (c .nodes-n .ensures) x (c .from-residual .result) (c .in-Break-check-walk .ensures tt) (out .1 ∙ ap Err (out .2))
