@@ -47,12 +47,18 @@ layer-text layer.Order = codes "order"
 abbrev pub told : Question → Layer → ℕ → Denial
 told question layer place = record { question = question; layer = layer; place = place }
 
--- asked of a place of the map, and of so many bytes
+-- asked of a place of the map, of so many bytes, of an order and of an entry
 abbrev pub of-map : Question → ℕ → Denial
 of-map question place = told question layer.Map place
 
 abbrev pub of-file : Question → ℕ → Denial
 of-file question count = told question layer.File count
+
+abbrev pub of-order : Question → ℕ → Denial
+of-order question index = told question layer.Order index
+
+abbrev pub of-list : Question → ℕ → Denial
+of-list question index = told question layer.List index
 
 -- the text of a denial
 abbrev pub refusal : Denial → List ℕ

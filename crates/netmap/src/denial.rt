@@ -1,7 +1,7 @@
 // Denials: the question that was answered no, and what it was asked of.
 ghost use mathlib.Core.Path.{_≡_};
 ghost use Rattle.std.specs.declared.option.Option.the-variants.{Some};
-ghost use Rattle.netmap.specs.Denials.{number-of, layer-text, of-map, of-file, refusal};
+ghost use Rattle.netmap.specs.Denials.{number-of, layer-text, of-map, of-file, of-order, of-list, refusal};
 use std::fmt;
 
 // The questions that calls ask; `number` gives each its number.
@@ -99,6 +99,28 @@ impl Denial {
             question,
             layer: Layer::File,
             place: count,
+        }
+    }
+
+    // Asked of an order, by its index in a sheet; outside a sheet that is 0.
+    pub fn of_order(question: Question, index: usize) -> Denial
+        ensures { λ r. ⌜ r ≡ of-order question index ⌝ }
+    {
+        Denial {
+            question,
+            layer: Layer::Order,
+            place: index,
+        }
+    }
+
+    // Asked of an entry of a segment list, by its index.
+    pub fn of_list(question: Question, index: usize) -> Denial
+        ensures { λ r. ⌜ r ≡ of-list question index ⌝ }
+    {
+        Denial {
+            question,
+            layer: Layer::List,
+            place: index,
         }
     }
 }

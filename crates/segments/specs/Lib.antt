@@ -1,0 +1,10 @@
+pub mod Algebra
+pub mod Distances
+pub mod Entries
+pub mod Orders
+pub mod Paths
+pub mod Relaxations
+pub mod Segments
+pub mod Spreads
+pub mod Theorems
+pub mod Walks
