@@ -4,4 +4,6 @@ mod images;
 #[cfg(test)]
 mod records;
 #[cfg(test)]
+mod samples;
+#[cfg(test)]
 mod texts;
