@@ -4,7 +4,7 @@ use netmap::Link;
 use netmap::Microseconds;
 use netmap::Question;
 
-pub fn link(tail: u8, head: u8, weight: u16, delay: u32, figure: u32) -> Link {
+pub(crate) fn link(tail: u8, head: u8, weight: u16, delay: u32, figure: u32) -> Link {
     Link {
         tail,
         head,
@@ -14,10 +14,10 @@ pub fn link(tail: u8, head: u8, weight: u16, delay: u32, figure: u32) -> Link {
     }
 }
 
-pub fn of_map(question: Question, place: usize) -> Result<(), Denial> {
+pub(crate) fn of_map(question: Question, place: usize) -> Result<(), Denial> {
     Err(Denial::of_map(question, place))
 }
 
-pub fn of_file(question: Question, count: usize) -> Result<(), Denial> {
+pub(crate) fn of_file(question: Question, count: usize) -> Result<(), Denial> {
     Err(Denial::of_file(question, count))
 }
