@@ -33,7 +33,7 @@ module _ (source grain : ℕ) (cs : List ℕ) (dist dist-after : List ℕ) (spre
   pub record WalkReports (net : Net) (text : List ℕ) : Type 0 where
     pub reply : Result (Walk Cost) Denial
     pub walked : WalkCall net (algebra cheaper costs) source grain cs dist dist-after spread spread-after reply
-    pub line : text ≡ reply-line reply
+    pub said : text ≡ reply-line reply
 
   abbrev pub Reports-by : Option Denial → List ℕ → List ℕ → Type 0
   Reports-by (Some d) bs text = text ≡ line (refusal d)

@@ -12,7 +12,8 @@ pub(crate) struct Request {
 }
 
 // What the words behind the program's name ask for.
-// A number above its type's largest becomes that largest, which no node and no segment has: the walk refuses it.
+// A number that its field cannot hold becomes the largest that it can, which the walk refuses as well:
+// no node is 255, no grain is so long, and no segment has the code 65,535.
 pub(crate) fn read_words(heap: Global, mut words: Args) -> Result<Request, AnyError> {
     let _program = words.next();
     let source = number(heap, "SOURCE", words.next())?;
@@ -20,24 +21,27 @@ pub(crate) fn read_words(heap: Global, mut words: Args) -> Result<Request, AnyEr
     let mut list = Vec::new(heap);
     for word in words {
         let code = number(heap, "CODE", Some(word))?;
-        list.push(code.min(65_535) as u16)?;
+        list.push(code.min(u16::MAX as u64) as u16)?;
     }
     Ok(Request {
-        source: source.min(255) as u8,
-        grain: Microseconds(grain),
+        source: source.min(u8::MAX as u64) as u8,
+        grain: Microseconds(grain.min(u32::MAX as u64) as u32),
         list,
     })
 }
 
-fn number(heap: Global, name: &str, word: Option<String>) -> Result<u32, AnyError> {
+fn number(heap: Global, name: &str, word: Option<String>) -> Result<u64, AnyError> {
     let Some(word) = word else {
-        return Err(format!(heap, "{name} is missing: walk SOURCE GRAIN CODE...")?.into());
+        return Err(format!(
+            heap,
+            "{name} is missing; usage: walk SOURCE GRAIN [CODE...]"
+        )?.into());
     };
-    match word.as_str().parse::<u32>() {
+    match word.as_str().parse::<u64>() {
         Ok(number) => Ok(number),
         Err(_) => Err(format!(
             heap,
-            "{name} must be a number from 0 to 4294967295, not {word:?}"
+            "{name} must be a whole number below 2^64, not {word:?}"
         )?.into()),
     }
 }

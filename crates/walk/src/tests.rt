@@ -72,5 +72,11 @@ fn asks(rt: &LibcRuntime, words: &str, source: u8, grain: u32, list: &[u16]) -> 
 fn numbers_that_are_too_large_name_nothing(rt: LibcRuntime) -> Result<(), Fail> {
     asks(&rt, "walk 0 1000", 0, 1000, &[])?;
     asks(&rt, "walk 63 1 2 3", 63, 1, &[2, 3])?;
-    asks(&rt, "walk 256 10001 65536", 255, 10_001, &[65_535])
+    asks(
+        &rt,
+        "walk 256 4294967296 65536 65535",
+        255,
+        4_294_967_295,
+        &[65_535, 65_535],
+    )
 }
