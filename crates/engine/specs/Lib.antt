@@ -1,0 +1,9 @@
+pub mod Calls
+pub mod Cells
+pub mod Chosen
+pub mod Fronts
+pub mod Keepers
+pub mod Offers
+pub mod Quotes
+pub mod Rebuilds
+pub mod Runs
