@@ -7,14 +7,17 @@ pub mod FrontCovered
 pub mod FrontFilled
 pub mod FrontGathered
 pub mod FrontKept
+pub mod FrontUnique
 pub mod IndexSplit
 pub mod LegsBounded
 pub mod LevelsFilled
 pub mod ListRebuilt
+pub mod OffersInTurn
 pub mod OrderAdmitted
 pub mod PairsCounted
 pub mod QuoteAnswered
 pub mod QuoteFromTable
+pub mod QuoteUnique
 pub mod RebuiltFirst
 pub mod RebuiltMade
 pub mod RowFilled

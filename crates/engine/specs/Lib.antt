@@ -7,3 +7,4 @@ pub mod Offers
 pub mod Quotes
 pub mod Rebuilds
 pub mod Runs
+pub mod Theorems

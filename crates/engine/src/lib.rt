@@ -8,6 +8,7 @@ pub mod quoting;
 mod rebuilding;
 pub mod running;
 mod table;
+pub mod theorems;
 
 pub use keeper::offer;
 pub use pareto::front;
