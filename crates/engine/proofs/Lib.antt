@@ -3,6 +3,8 @@ pub mod CandidatesBest
 pub mod CellExtended
 pub mod CellPlaces
 pub mod ChosenFirst
+pub mod ComputedTests
+pub mod ExamplesSettled
 pub mod FrontCovered
 pub mod FrontFilled
 pub mod FrontGathered
@@ -12,9 +14,11 @@ pub mod IndexSplit
 pub mod LegsBounded
 pub mod LevelsFilled
 pub mod ListRebuilt
+pub mod ListsTried
 pub mod OffersInTurn
 pub mod OrderAdmitted
 pub mod PairsCounted
+pub mod PathPlans
 pub mod QuoteAnswered
 pub mod QuoteFromTable
 pub mod QuoteUnique
@@ -24,4 +28,5 @@ pub mod RowFilled
 pub mod RunExtended
 pub mod SlotsCleared
 pub mod SlotsImproved
+pub mod SoundNets
 pub mod SourceScanned

@@ -1,6 +1,7 @@
 // Segment lists for orders with a bound on delay, over any map and any tariff.
 mod checks;
 mod choosing;
+pub mod examples;
 mod filling;
 pub mod keeper;
 pub mod pareto;
