@@ -8,6 +8,7 @@ pub mod pareto;
 pub mod quoting;
 mod rebuilding;
 pub mod running;
+mod search;
 mod table;
 pub mod theorems;
 

@@ -13,6 +13,7 @@ use crate::checks::check_order;
 use crate::checks::most_grains;
 use crate::filling::fill;
 use crate::keeper::offer;
+use crate::search::Search;
 use crate::table::blank;
 use crate::table::read_cell;
 use netmap::Denial;
@@ -114,17 +115,14 @@ pub fn front<M: Map, V: Tariff>(
     let n = map.nodes();
     let limit = order.limit.0 as usize;
     route(map, n, dist, spread);
-    fill(
-        map,
+    let search = Search {
         n,
         dist,
         spread,
-        order.grain,
+        grain: order.grain,
         top,
-        limit,
-        order.target as usize,
-        table,
-    );
+    };
+    fill(map, search, limit, order.target as usize, table);
     let part = &mut slots[0..top + 1];
     gather(table, n, top, limit, order.source as usize, part);
     Ok(count_held(part))

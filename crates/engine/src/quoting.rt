@@ -12,6 +12,7 @@ use crate::checks::most_grains;
 use crate::choosing::choose;
 use crate::filling::fill;
 use crate::rebuilding::rebuild;
+use crate::search::Search;
 use netmap::Denial;
 use netmap::Map;
 use netmap::Microseconds;
@@ -24,56 +25,32 @@ use segments::Spread;
 use segments::routing::route;
 use tariff::Tariff;
 
-// The answer to an order whose questions are all answered yes, from what routing left.
+// The answer to an order whose questions are all answered yes.
 fn answer<M: Map, V: Tariff>(
     map: &M,
-    n: usize,
     order: Order,
-    dist: &[u32],
-    spread: &[Spread<V>],
+    search: Search<V>,
     table: &mut [Option<V>],
     list: &mut [u16],
 ) -> Result<Figures<V>, Denial>
-    requires routed { ⌜ Routed (M·Map .meaning (now map)) (algebra (V·Ranking .good) (V·Tariff .joining)) n (now dist) (now spread) ⌝ }
-    requires ends { ⌜ (order .source < n) × (order .target < n) ⌝ }
+    requires routed { ⌜ Routed (M·Map .meaning (now map)) (algebra (V·Ranking .good) (V·Tariff .joining)) (search .n) (now (search .dist)) (now (search .spread)) ⌝ }
+    requires grain { ⌜ search .grain ≡ order .grain ⌝ }
+    requires top { ⌜ search .top ≡ most-grains order ⌝ }
+    requires ends { ⌜ (order .source < search .n) × (order .target < search .n) ⌝ }
     requires limit { ⌜ order .limit .0 ≤ 10 ⌝ }
-    requires grain { ⌜ 1 ≤ order .grain .0 ⌝ }
-    requires top { ⌜ most-grains order ≤ 1000 ⌝ }
-    requires room { ⌜ (order .limit .0 + 1) * n * (most-grains order + 1) ≤ length (now table) ⌝ }
+    requires fine { ⌜ 1 ≤ search .grain .0 ⌝ }
+    requires few { ⌜ search .top ≤ 1000 ⌝ }
+    requires room { ⌜ (order .limit .0 + 1) * search .n * (search .top + 1) ≤ length (now table) ⌝ }
     requires space { ⌜ order .limit .0 ≤ length (now list) ⌝ }
     ensures { λ r. ⌜ Searched (M·Map .meaning (now (map .entry))) (algebra (V·Ranking .good) (V·Tariff .joining)) order (now (list .entry)) (now (list .exit)) r ⌝ }
 {
-    let top = most_grains(order);
     let limit = order.limit.0 as usize;
     let source = order.source as usize;
-    fill(
-        map,
-        n,
-        dist,
-        spread,
-        order.grain,
-        top,
-        limit,
-        order.target as usize,
-        table,
-    );
-    match choose(table, n, top, limit, source) {
+    fill(map, search, limit, order.target as usize, table);
+    match choose(table, search.n, search.top, limit, source) {
         None => Err(Denial::of_order(Question::AnyList, order.index)),
         Some(choice) => {
-            let delay = rebuild(
-                map,
-                n,
-                dist,
-                spread,
-                order.grain,
-                top,
-                table,
-                source,
-                choice.value,
-                choice.grains,
-                choice.entries,
-                list,
-            );
+            let delay = rebuild(map, search, table, source, choice, list);
             Ok(Figures {
                 value: choice.value,
                 grains: Grains(choice.grains as u32),
@@ -108,5 +85,12 @@ pub fn quote<M: Map, V: Tariff>(
     }
     let n = map.nodes();
     route(map, n, dist, spread);
-    answer(map, n, order, dist, spread, table, list)
+    let search = Search {
+        n,
+        dist,
+        spread,
+        grain: order.grain,
+        top: most_grains(order),
+    };
+    answer(map, order, search, table, list)
 }

@@ -7,16 +7,27 @@ ghost use Rattle.segments.specs.Algebra.{algebra};
 ghost use Rattle.segments.specs.Spreads.{Routed};
 ghost use Rattle.engine.specs.Cells.{best-of, Filled-to};
 ghost use Rattle.engine.specs.Rebuilds.{Attains, TriedCode, FoundAt, Written};
+use crate::choosing::Choice;
+use crate::choosing::ChoiceClone;
 use crate::filling::CODES;
+use crate::search::Search;
+use crate::search::SearchClone;
 use crate::table::read_cell;
 use netmap::Map;
-use netmap::Microseconds;
 use segments::Leg;
-use segments::Spread;
 use segments::entry::entry;
 use segments::figures::LegClone;
 use segments::units::round_up;
 use tariff::Tariff;
+
+// A list so far: its value and the node where it ends, and what is left of grains and of entries after the next.
+#[derive(Clone, Copy)]
+struct Prefix<V> {
+    pub value: V,
+    pub end: usize,
+    pub grains: usize,
+    pub left: usize,
+}
 
 // A code with what it does, and the grains that it leaves.
 #[derive(Clone, Copy)]
@@ -26,42 +37,42 @@ pub(crate) struct Found<V> {
     pub rest: usize,
 }
 
-// Whether a code still attains the total after a prefix, with m entries to follow.
+// Whether a code still attains the total after a prefix.
 fn try_code<M: Map, V: Tariff>(
     map: &M,
-    n: usize,
-    dist: &[u32],
-    spread: &[Spread<V>],
-    grain: Microseconds,
-    top: usize,
+    search: Search<V>,
     table: &[Option<V>],
-    m: usize,
-    v: usize,
-    d: usize,
-    prefix: V,
+    prefix: Prefix<V>,
     total: V,
     code: u16,
 ) -> Option<Found<V>>
-    requires routed { ⌜ Routed (M·Map .meaning (now map)) (algebra (V·Ranking .good) (V·Tariff .joining)) n (now dist) (now spread) ⌝ }
-    requires grain { ⌜ 1 ≤ grain .0 ⌝ }
-    requires top { ⌜ top ≤ 1000 ⌝ }
-    requires labels { ⌜ m ≤ 10 ⌝ }
-    requires node { ⌜ v < n ⌝ }
-    requires grains { ⌜ d ≤ top ⌝ }
-    requires room { ⌜ (m + 1) * n * (top + 1) ≤ length (now table) ⌝ }
-    ensures { λ r. ⌜ TriedCode (M·Map .meaning (now (map .entry))) (algebra (V·Ranking .good) (V·Tariff .joining)) (grain .0) total (best-of n top (now (table .entry)) m) prefix d v code r ⌝ }
+    requires routed { ⌜ Routed (M·Map .meaning (now map)) (algebra (V·Ranking .good) (V·Tariff .joining)) (search .n) (now (search .dist)) (now (search .spread)) ⌝ }
+    requires grain { ⌜ 1 ≤ search .grain .0 ⌝ }
+    requires top { ⌜ search .top ≤ 1000 ⌝ }
+    requires labels { ⌜ prefix .left ≤ 10 ⌝ }
+    requires node { ⌜ prefix .end < search .n ⌝ }
+    requires grains { ⌜ prefix .grains ≤ search .top ⌝ }
+    requires room { ⌜ (prefix .left + 1) * (search .n) * (search .top + 1) ≤ length (now table) ⌝ }
+    ensures { λ r. ⌜ TriedCode (M·Map .meaning (now (map .entry))) (algebra (V·Ranking .good) (V·Tariff .joining)) (search .entry .grain .0) total (best-of (search .entry .n) (search .entry .top) (now (table .entry)) (prefix .left)) (prefix .value) (prefix .grains) (prefix .end) code r ⌝ }
 {
-    if let Some(leg) = entry(map, n, dist, spread, v, code) {
-        let g = round_up(leg.delay, grain).0 as usize;
-        if g <= d {
-            if let Some(x) = read_cell(table, n, top, m, leg.to as usize, d - g) {
-                let whole = prefix.join(leg.value).join(x);
+    if let Some(leg) = entry(map, search.n, search.dist, search.spread, prefix.end, code) {
+        let g = round_up(leg.delay, search.grain).0 as usize;
+        if g <= prefix.grains {
+            if let Some(x) = read_cell(
+                table,
+                search.n,
+                search.top,
+                prefix.left,
+                leg.to as usize,
+                prefix.grains - g,
+            ) {
+                let whole = prefix.value.join(leg.value).join(x);
                 if whole.as_good(total) {
                     if total.as_good(whole) {
                         return Some(Found {
                             code,
                             leg,
-                            rest: d - g,
+                            rest: prefix.grains - g,
                         });
                     }
                 }
@@ -74,96 +85,62 @@ fn try_code<M: Map, V: Tariff>(
 // The smallest code that still attains the total.
 fn seek<M: Map, V: Tariff>(
     map: &M,
-    n: usize,
-    dist: &[u32],
-    spread: &[Spread<V>],
-    grain: Microseconds,
-    top: usize,
+    search: Search<V>,
     table: &[Option<V>],
-    m: usize,
-    v: usize,
-    d: usize,
-    prefix: V,
+    prefix: Prefix<V>,
     total: V,
 ) -> Found<V>
-    requires routed { ⌜ Routed (M·Map .meaning (now map)) (algebra (V·Ranking .good) (V·Tariff .joining)) n (now dist) (now spread) ⌝ }
-    requires grain { ⌜ 1 ≤ grain .0 ⌝ }
-    requires top { ⌜ top ≤ 1000 ⌝ }
-    requires labels { ⌜ m ≤ 10 ⌝ }
-    requires node { ⌜ v < n ⌝ }
-    requires grains { ⌜ d ≤ top ⌝ }
-    requires room { ⌜ (m + 1) * n * (top + 1) ≤ length (now table) ⌝ }
-    requires some { ⌜ ((c : ℕ) × Attains (M·Map .meaning (now map)) (algebra (V·Ranking .good) (V·Tariff .joining)) (grain .0) total (best-of n top (now table) m) prefix d v c) ⌝ }
-    ensures { λ r. ⌜ FoundAt (M·Map .meaning (now (map .entry))) (algebra (V·Ranking .good) (V·Tariff .joining)) (grain .0) total (best-of n top (now (table .entry)) m) prefix d v r ⌝ }
+    requires routed { ⌜ Routed (M·Map .meaning (now map)) (algebra (V·Ranking .good) (V·Tariff .joining)) (search .n) (now (search .dist)) (now (search .spread)) ⌝ }
+    requires grain { ⌜ 1 ≤ search .grain .0 ⌝ }
+    requires top { ⌜ search .top ≤ 1000 ⌝ }
+    requires labels { ⌜ prefix .left ≤ 10 ⌝ }
+    requires node { ⌜ prefix .end < search .n ⌝ }
+    requires grains { ⌜ prefix .grains ≤ search .top ⌝ }
+    requires room { ⌜ (prefix .left + 1) * (search .n) * (search .top + 1) ≤ length (now table) ⌝ }
+    requires some { ⌜ ((c : ℕ) × Attains (M·Map .meaning (now map)) (algebra (V·Ranking .good) (V·Tariff .joining)) (search .grain .0) total (best-of (search .n) (search .top) (now table) (prefix .left)) (prefix .value) (prefix .grains) (prefix .end) c) ⌝ }
+    ensures { λ r. ⌜ FoundAt (M·Map .meaning (now (map .entry))) (algebra (V·Ranking .good) (V·Tariff .joining)) (search .entry .grain .0) total (best-of (search .entry .n) (search .entry .top) (now (table .entry)) (prefix .left)) (prefix .value) (prefix .grains) (prefix .end) r ⌝ }
 {
     for code in 0..CODES {
-        if let Some(f) = try_code(
-            map,
-            n,
-            dist,
-            spread,
-            grain,
-            top,
-            table,
-            m,
-            v,
-            d,
-            prefix,
-            total,
-            code,
-        ) {
+        if let Some(f) = try_code(map, search, table, prefix, total, code) {
             return f;
         }
     }
     unreachable()
 }
 
-// Writes the list of the cell of the total at the source, at each entry the smallest code that attains its value, and gives its delay.
+// Writes the list of the chosen cell, at each entry the smallest code that attains its value, and gives its delay.
 pub(crate) fn rebuild<M: Map, V: Tariff>(
     map: &M,
-    n: usize,
-    dist: &[u32],
-    spread: &[Spread<V>],
-    grain: Microseconds,
-    top: usize,
+    search: Search<V>,
     table: &[Option<V>],
     source: usize,
-    total: V,
-    grains: usize,
-    entries: usize,
+    choice: Choice<V>,
     list: &mut [u16],
 ) -> u32
-    requires routed { ⌜ Routed (M·Map .meaning (now map)) (algebra (V·Ranking .good) (V·Tariff .joining)) n (now dist) (now spread) ⌝ }
-    requires grain { ⌜ 1 ≤ grain .0 ⌝ }
-    requires top { ⌜ top ≤ 1000 ⌝ }
-    requires labels { ⌜ entries ≤ 10 ⌝ }
-    requires node { ⌜ source < n ⌝ }
-    requires few { ⌜ grains ≤ top ⌝ }
-    requires room { ⌜ (entries + 1) * n * (top + 1) ≤ length (now table) ⌝ }
-    requires space { ⌜ entries ≤ length (now list) ⌝ }
-    requires filled { ⌜ ((target : ℕ) × Filled-to (M·Map .meaning (now map)) (algebra (V·Ranking .good) (V·Tariff .joining)) (grain .0) target n top (entries) (now table)) ⌝ }
-    requires cell { ⌜ best-of n top (now table) (entries) (grains) source ≡ Some total ⌝ }
-    ensures { λ r. ⌜ Written (M·Map .meaning (now (map .entry))) (algebra (V·Ranking .good) (V·Tariff .joining)) (grain .0) total (best-of n top (now (table .entry))) (grains) source (entries) r (now (list .entry)) (now (list .exit)) ⌝ }
+    requires routed { ⌜ Routed (M·Map .meaning (now map)) (algebra (V·Ranking .good) (V·Tariff .joining)) (search .n) (now (search .dist)) (now (search .spread)) ⌝ }
+    requires grain { ⌜ 1 ≤ search .grain .0 ⌝ }
+    requires top { ⌜ search .top ≤ 1000 ⌝ }
+    requires labels { ⌜ choice .entries ≤ 10 ⌝ }
+    requires node { ⌜ source < search .n ⌝ }
+    requires few { ⌜ choice .grains ≤ search .top ⌝ }
+    requires room { ⌜ (choice .entries + 1) * (search .n) * (search .top + 1) ≤ length (now table) ⌝ }
+    requires space { ⌜ choice .entries ≤ length (now list) ⌝ }
+    requires filled { ⌜ ((target : ℕ) × Filled-to (M·Map .meaning (now map)) (algebra (V·Ranking .good) (V·Tariff .joining)) (search .grain .0) target (search .n) (search .top) (choice .entries) (now table)) ⌝ }
+    requires cell { ⌜ best-of (search .n) (search .top) (now table) (choice .entries) (choice .grains) source ≡ Some (choice .value) ⌝ }
+    ensures { λ r. ⌜ Written (M·Map .meaning (now (map .entry))) (algebra (V·Ranking .good) (V·Tariff .joining)) (search .entry .grain .0) (choice .value) (best-of (search .entry .n) (search .entry .top) (now (table .entry))) (choice .grains) source (choice .entries) r (now (list .entry)) (now (list .exit)) ⌝ }
 {
     let mut v = source;
-    let mut d = grains;
+    let mut d = choice.grains;
     let mut prefix = V::neutral();
     let mut delay: u32 = 0;
-    for i in 0..entries {
-        let f = seek(
-            map,
-            n,
-            dist,
-            spread,
-            grain,
-            top,
-            table,
-            entries - 1 - i,
-            v,
-            d,
-            prefix,
-            total,
-        );
+    for i in 0..choice.entries {
+        let rest = Prefix {
+            value: prefix,
+            end: v,
+            grains: d,
+            left: choice.entries - 1 - i,
+        };
+        let f = seek(map, search, table, rest, choice.value);
         list[i] = f.code;
         v = f.leg.to as usize;
         d = f.rest;

@@ -56,15 +56,24 @@ answer-requires g c κs =
     let room = room-of (c .args .dist .now) (c .args .spread .now) (c .args .table .now) in
     let a = admitted net o room (granted (order-denial net o room) tt tt (c .in-Continue-check-order .ensures tt)) in
     let is = sym (c .nodes-n .ensures) in
+    let top = sym (c .most-grains .ensures) in
     record {
       routed = c .route .ensures;
+      grain = refl;
+      top = c .most-grains .ensures;
       ends = (subst (λ k. o .source < k) is (a .source), subst (λ k. o .target < k) is (a .target));
       limit = a .limit-high;
-      grain = a .grain-low;
-      top = a .top;
-      room = subst (λ k. (o .limit .0 + 1) * k * (most-grains o + 1) ≤ length (c .args .table .now)) is (a .table);
+      fine = a .grain-low;
+      few = subst (λ t. t ≤ 1000) top (a .top);
+      room = subst (λ t. (o .limit .0 + 1) * c .nodes-n .result * (t + 1) ≤ length (c .args .table .now)) top (subst (λ k. (o .limit .0 + 1) * k * (most-grains o + 1) ≤ length (c .args .table .now)) is (a .table));
       space = c .if-list-order .left;
     }
+
+pub most-grains-requires : need.most-grains-requires
+most-grains-requires g c κs =
+    let net = g .M·Map .meaning (c .args .map .now) in
+    let room = room-of (c .args .dist .now) (c .args .spread .now) (c .args .table .now) in
+    admitted net (c .args .order) room (granted (order-denial net (c .args .order) room) tt tt (c .in-Continue-check-order .ensures tt)) .grain-low
 
 pub returns : need.returns
 returns g c =
