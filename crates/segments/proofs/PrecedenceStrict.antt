@@ -64,7 +64,7 @@ decided true = inl tt
 decided false = inr (λ t. t)
 
 module _ {V : Type 0} (alg : Algebra V) (lawful : Laws alg) where
-  compared : (x y : V) → (x ≡ y) ⊎ (Better alg x y ⊎ Better alg y x)
+  pub compared : (x y : V) → (x ≡ y) ⊎ (Better alg x y ⊎ Better alg y x)
   compared x y =
       ⊎-elim
       (λ p. ⊎-elim (λ q. inl (lawful .antisymmetric x y p q)) (λ n. inr (inl (p, λ e. n (subst (λ z. AsGood alg z x) e (subst (λ z. AsGood alg x z) (sym e) p))))) (decided (alg .as-good y x)))

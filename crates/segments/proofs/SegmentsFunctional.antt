@@ -36,7 +36,7 @@ module _ {V : Type 0} (net : Net) (alg : Algebra V) (lawful : Laws alg) where
       leg-path h k (p .to ∙ ap (λ l. l .head) e ∙ sym (q .to)) (ap (λ d. d .0) (p .delay ∙ ap (λ l. l .delay) e ∙ sym (q .delay))) (p .value ∙ ap (alg .of-link) e ∙ sym (q .value))
 
 module _ {V : Type 0} (alg : Algebra V) (lawful : Laws alg) where
-  segments-functional : Segments-functional alg
+  pub segments-functional : Segments-functional alg
   segments-functional net u c h k (inl p) (inl q) = node-once net alg lawful u c h k p q
   segments-functional net u c h k (inl p) (inr q) = absurd (omega (arith, p .range, q .low))
   segments-functional net u c h k (inr p) (inl q) = absurd (omega (arith, q .range, p .low))

@@ -55,7 +55,8 @@ fn link_leg<M: Map, V: Tariff>(map: &M, place: usize) -> Option<Leg<V>>
 }
 
 // What a code does at u, if it is legal there: 0 to 63 name a node, 256 to 511 the link at a place.
-pub(crate) fn entry<M: Map, V: Tariff>(
+// Public for the search above this crate.
+pub fn entry<M: Map, V: Tariff>(
     map: &M,
     n: usize,
     dist: &[u32],

@@ -1,10 +1,10 @@
 // Segment routing over any map and any tariff: best paths, node and adjacency segments, and segment lists.
 mod distances;
 mod ecmp;
-mod entry;
+pub mod entry;
 pub mod figures;
 pub mod order;
-mod routing;
+pub mod routing;
 pub mod theorems;
 pub mod units;
 pub mod walking;

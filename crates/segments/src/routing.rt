@@ -10,13 +10,8 @@ use crate::figures::Spread;
 use netmap::Map;
 use tariff::Tariff;
 
-// Fills both working slices.
-pub(crate) fn route<M: Map, V: Tariff>(
-    map: &M,
-    n: usize,
-    dist: &mut [u32],
-    spread: &mut [Spread<V>],
-)
+// Fills both working slices. Public for the search above this crate.
+pub fn route<M: Map, V: Tariff>(map: &M, n: usize, dist: &mut [u32], spread: &mut [Spread<V>])
     requires nodes { ⌜ n ≡ M·Map .meaning (now map) .nodes ⌝ }
     requires sized { ⌜ n * n ≤ length (now dist) ⌝ }
     requires space { ⌜ n * n ≤ length (now spread) ⌝ }

@@ -12,8 +12,8 @@ pub struct Grains(pub u32);
 #[derive(Clone, Copy, PartialEq, Eq, Debug)]
 pub struct Labels(pub u16);
 
-// A delay in grains of the given length.
-pub(crate) fn round_up(delay: Microseconds, grain: Microseconds) -> Grains
+// A delay in grains of the given length. Public for the search above this crate.
+pub fn round_up(delay: Microseconds, grain: Microseconds) -> Grains
     requires { ⌜ 1 ≤ grain .0 ⌝ }
     ensures { λ r. ⌜ r .0 ≡ grains-of (grain .0) (delay .0) ⌝ }
 {

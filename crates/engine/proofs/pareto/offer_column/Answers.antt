@@ -1,0 +1,40 @@
+use mathlib.Core.Path.{sym, subst}
+use Prim.Native.Nat.{ℕ, _+_, _-_}
+use native.Mathlib.Omega.{arith}
+use lib.ListN.{length}
+use Rattle.engine.specs.Cells.{best-of}
+use Rattle.engine.specs.Chosen.{Passed}
+use Rattle.engine.specs.Offers.{Gathered}
+use Rattle.engine.proofs.CellPlaces.{room-slot}
+use Rattle.engine.proofs.FrontGathered.{gather-none, gather-some, gather-next}
+use Rattle.engine.proofs.pareto.offer_column.Needs as need
+use Rattle.engine.proofs.pareto.offer_column.Needs.{in-Some, in-rest}
+
+pub read-cell-requires : need.read-cell-requires
+read-cell-requires g c κs = record {
+  nodes = c .pre .nodes;
+  top = c .pre .top;
+  labels = omega (arith, c .loop-l-test .taken, c .pre .labels);
+  node = c .pre .node;
+  grains = c .pre .grains;
+  room = room-slot (c .args .n) (c .args .top) (c .loop-l .l) (c .args .source) (c .args .d) (c .args .limit) (length (c .args .table .now)) (omega (arith, c .loop-l-test .taken)) (c .pre .node) (c .pre .grains) (c .pre .room);
+}
+
+pub loop-l-again : need.loop-l-again
+loop-l-again g c =
+    let good = g .V·Ranking .good in
+    let best : ℕ → ℕ → _ = λ m e. best-of (c .args .n) (c .args .top) (c .args .table .now) m e (c .args .source) in
+    let limit = c .args .limit in
+    let d = c .args .d in
+    let l = c .loop-l .l in
+    elim (c .match-read-cell .came) [
+      | in-Some w ↦
+          subst (Gathered good best (Passed limit d (l + 1))) (sym (w .slots-is))
+          (gather-some good best limit d l (w .in-Some .value) (c .loop-l .slots) (w .offer .last .slots) (w .offer .result) (omega (arith, c .loop-l-test .taken)) (sym (w .in-Some .ensures tt)) (omega (arith, c .pre .grains, c .pre .long, c .loop-l .kept .slots)) (w .offer .ensures) (c .loop-l .inv))
+      | in-rest w ↦
+          subst (Gathered good best (Passed limit d (l + 1))) (sym (w .slots-is))
+          (gather-none good best limit d l (c .loop-l .slots) (sym (w .in-rest .ensures tt)) (c .loop-l .inv))
+    ]
+
+pub returns : need.returns
+returns g c = gather-next (g .V·Ranking .good) (λ m e. best-of (c .args .n) (c .args .top) (c .args .table .now) m e (c .args .source)) (c .args .limit) (c .args .d) (c .loop-l .l) (c .loop-l .slots) (omega (arith, c .loop-l-test .left)) (c .loop-l .inv)

@@ -1,0 +1,11 @@
+pub mod Calls
+pub mod Cells
+pub mod Chosen
+pub mod Examples
+pub mod Fronts
+pub mod Keepers
+pub mod Offers
+pub mod Quotes
+pub mod Rebuilds
+pub mod Runs
+pub mod Theorems

@@ -1,0 +1,13 @@
+// What the search for an order reads.
+use netmap::Microseconds;
+use segments::Spread;
+
+// The routes of n nodes, the length of a grain, and the largest number of grains.
+#[derive(Clone, Copy)]
+pub(crate) struct Search<'a, V> {
+    pub n: usize,
+    pub dist: &'a [u32],
+    pub spread: &'a [Spread<V>],
+    pub grain: Microseconds,
+    pub top: usize,
+}
