@@ -25,7 +25,9 @@ module _ {V : Type 0} (good : V → V → Bool) where
       let next = one-more (ltb (p .grains) (length s)) p qs s (o .0) (o .1) (o .3) f in
       subst (λ n. Front good (Accepted (granted good n ps (cond (ltb (p .grains) (length s)) (p ∷ qs) qs))) t) (o .2) (offers-kept ps (cond (ltb (p .grains) (length s)) (p ∷ qs) qs) (o .0) t next (o .4))
 
+  -- empty slots hold the front of no pairs
+  pub empty-front : (s : List (Option V)) → ((d : ℕ) → getD s d None ≡ None) → Front good (Accepted []) s
+  empty-front s empty = record { sound = λ d x h. absurd (none-some (getD s d None) x (empty d) h); complete = λ d x k. absurd (k .member) }
+
   pub keeper-holds-front : Keeper-holds-front good
-  keeper-holds-front ps s t blank o =
-      let empty : Front good (Accepted []) s = record { sound = λ d x h. absurd (none-some (getD s d None) x (blank d) h); complete = λ d x k. absurd (k .member) } in
-      offers-kept ps [] s t empty o
+  keeper-holds-front ps s t empty o = offers-kept ps [] s t (empty-front s empty) o

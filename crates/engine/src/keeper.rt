@@ -1,14 +1,25 @@
 // The front keeper: a slot for each number of grains, which hold the Pareto front of the pairs offered.
 ghost use mathlib.Core.Bool.{true, false};
+ghost use mathlib.Core.List.{[]};
 ghost use mathlib.Core.Path.{_≡_};
-ghost use Prim.Native.Nat.{_<_};
-ghost use lib.ListN.{length};
-ghost use Rattle.engine.specs.Fronts.{InSlot};
-ghost use Rattle.engine.specs.Keepers.{OfferCall, Beaten, Cleared};
+ghost use Prim.Native.Nat.{ℕ, _<_};
+ghost use lib.ListN.{length, getD};
+ghost use Rattle.std.specs.declared.option.Option.the-variants.{None};
+ghost use Rattle.engine.specs.Fronts.{InSlot, Front};
+ghost use Rattle.engine.specs.Keepers.{Accepted, OfferCall, Beaten, Cleared};
+use crate::table::blank;
 use netmap::Denial;
 use netmap::Question;
 use segments::Grains;
 use tariff::Ranking;
+
+// Opens the keeper: no slot holds a pair.
+pub fn empty_slots<V: Ranking>(slots: &mut [Option<V>])
+    ensures empty { λ _. ⌜ ((d : ℕ) → getD (now (slots .exit)) d None ≡ None) ⌝ }
+    ensures front { λ _. ⌜ Front (V·Ranking .good) (Accepted []) (now (slots .exit)) ⌝ }
+{
+    blank(slots, 0, slots.len());
+}
 
 // Is a slot of at most d grains as good as the value?
 fn beaten<V: Ranking>(slots: &[Option<V>], d: usize, value: V) -> bool
