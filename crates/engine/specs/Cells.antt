@@ -55,6 +55,14 @@ slot n top l v d = (l * n + v) * (top + 1) + d
 abbrev pub best-of : {V : Type 0} → ℕ → ℕ → List (Option V) → ℕ → ℕ → ℕ → Option V
 best-of n top table l d v = getD table (slot n top l v d) None
 
+-- a slice of the length has the cells of n nodes, up to top grains and up to limit entries, and the source is a node
+pub record HasCells (n top limit source long : ℕ) : Type 0 where
+  pub nodes : n ≤ 64
+  pub top-high : top ≤ 1000
+  pub limit-high : limit ≤ 10
+  pub node : source < n
+  pub room : (limit + 1) * n * (top + 1) ≤ long
+
 -- the better of what a slot holds and a value; what is held stays at a tie
 abbrev pub better-of : {V : Type 0} → Algebra V → Option V → V → Option V
 better-of alg None y = Some y

@@ -11,11 +11,13 @@ use Rattle.engine.proofs.quoting.answer.Needs as need
 
 pub choose-requires : need.choose-requires
 choose-requires g c κs = record {
-  nodes = omega (arith, c .pre .routed .measured .nodes, g .M·Map .sound (c .args .map .now) .nodes-high);
-  top = c .pre .few;
-  labels = c .pre .limit;
-  node = c .pre .ends .0;
-  room = subst (λ k. (c .args .order .limit .0 + 1) * c .args .search .n * (c .args .search .top + 1) ≤ k) (sym (c .fill .kept .table)) (c .pre .room);
+  cells = record {
+    nodes = omega (arith, c .pre .routed .measured .nodes, g .M·Map .sound (c .args .map .now) .nodes-high);
+    top-high = c .pre .few;
+    limit-high = c .pre .limit;
+    node = c .pre .ends .0;
+    room = subst (λ k. (c .args .order .limit .0 + 1) * c .args .search .n * (c .args .search .top + 1) ≤ k) (sym (c .fill .kept .table)) (c .pre .room);
+  };
 }
 
 pub rebuild-delay-requires : need.rebuild-delay-requires
