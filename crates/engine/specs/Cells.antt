@@ -89,10 +89,10 @@ pub record Blank {V : Type 0} (from count : ℕ) (before after : List (Option V)
 
 module _ {V : Type 0} (net : Net) (alg : Algebra V) (grain target n top : ℕ) where
   -- the rows of up to l entries are filled
-  abbrev pub Filled-to : ℕ → List (Option V) → Type 0
-  Filled-to l table = (m : ℕ) → m ≤ l → Row net alg grain target top m (best-of n top table m)
+  abbrev pub FilledTo : ℕ → List (Option V) → Type 0
+  FilledTo l table = (m : ℕ) → m ≤ l → Row net alg grain target top m (best-of n top table m)
 
 -- the rows of l + 1 entries at the nodes below v are filled from those of l entries, and all before them stays
-pub record Levelling {V : Type 0} (net : Net) (alg : Algebra V) (grain n top l v : ℕ) (before xs : List (Option V)) : Type 0 where
+pub record LevelTo {V : Type 0} (net : Net) (alg : Algebra V) (grain n top l v : ℕ) (before xs : List (Option V)) : Type 0 where
   pub kept : Kept (slot n top (l + 1) 0 0) before xs
   pub cells : (target : ℕ) → Row net alg grain target top l (best-of n top before l) → (d u : ℕ) → d ≤ top → u < v → Cell net alg grain target (l + 1) d u (best-of n top xs (l + 1) d u)
