@@ -1,8 +1,8 @@
 -- Rounding each entry up keeps the bound, and loses less than a grain for each entry.
-use mathlib.Core.Path.{_≡_, refl, sym, ap, _∙_, subst}
+use mathlib.Core.Path.{_≡_, sym, ap, subst}
 use mathlib.Core.List.{List, [], _∷_}
-use mathlib.Core.Logic.{_⊎_, inl, inr, ⊎-elim}
-use Prim.Native.Nat.{ℕ, suc, _+_, _-_, _*_, _/_, _≤_, _<_}
+use mathlib.Core.Logic.{inl, inr}
+use Prim.Native.Nat.{ℕ, _+_, _-_, _*_, _≤_}
 use native.Mathlib.Nat.{div-mul-le-self, lt-div-mul-add, add-mul, zero-mul, mul-zero, mul-suc, le-trans}
 use native.Mathlib.Omega.{arith}
 use lib.ListN.{length}
@@ -10,13 +10,13 @@ use Rattle.std.specs.declared.result.Result.{Result}
 use Rattle.std.specs.declared.result.Result.the-variants.{Ok, Err}
 use Rattle.netmap.specs.declared.denial.Denial.{Denial}
 use Rattle.netmap.specs.Net.{Net}
-use Rattle.segments.specs.Algebra.{Algebra, Laws, AsGood, Better}
+use Rattle.segments.specs.Algebra.{Algebra, Laws, Better}
 use Rattle.segments.specs.declared.figures.Figures.{Figures}
 use Rattle.segments.specs.declared.order.Order.{Order}
 use Rattle.segments.specs.declared.figures.Leg.{Leg}
 use Rattle.segments.specs.Segments.{SegmentList, grains-of, list-grains, list-delay, list-value}
-use Rattle.segments.specs.Orders.{Within, Serves, Precedes}
-use Rattle.engine.specs.Quotes.{Rival, Quoted, KeepsBound}
+use Rattle.segments.specs.Orders.{Within, Precedes}
+use Rattle.engine.specs.Quotes.{Rival, KeepsBound}
 use Rattle.engine.specs.Calls.{Searched}
 use Rattle.segments.proofs.SegmentsFunctional.{lists-functional}
 

@@ -14,6 +14,7 @@ use Rattle.engine.specs.Cells.{better-of, merge, BestOf, Candidate}
 use Rattle.segments.proofs.SegmentsFunctional.{segments-functional}
 use Rattle.segments.proofs.OptionValues.{some-same, none-some}
 use Rattle.engine.proofs.IndexSplit.{last-or}
+use Rattle.segments.proofs.JoinedValues.{as-good-refl}
 
 module _ {V : Type 0} (alg : Algebra V) where
   pub best-same : (P Q : V → Type 0) (o : Option V) → ((z : V) → P z → Q z) → ((z : V) → Q z → P z) → BestOf alg P o → BestOf alg Q o
@@ -21,9 +22,6 @@ module _ {V : Type 0} (alg : Algebra V) where
   best-same P Q None f g b = λ y q. b y (g y q)
 
   module _ (lawful : Laws alg) where
-    good-refl : (x : V) → AsGood alg x x
-    good-refl x = ⊎-elim (λ h. h) (λ h. h) (lawful .total x x)
-
     not-good : (x y : V) → alg .as-good x y ≡ false → AsGood alg y x
     not-good x y e = ⊎-elim (λ h. absurd (subst lib.Dec.T e h)) (λ h. h) (lawful .total x y)
 
@@ -32,12 +30,12 @@ module _ {V : Type 0} (alg : Algebra V) where
 
     -- one value more
     pub best-add : (P Q : V → Type 0) (o : Option V) (y : V) → ((z : V) → P z → Q z) → Q y → ((z : V) → Q z → P z ⊎ (z ≡ y)) → BestOf alg P o → BestOf alg Q (better-of alg o y)
-    best-add P Q None y f q g b = (q, λ z k. ⊎-elim (λ p. absurd (b z p)) (λ e. subst (AsGood alg y) (sym e) (good-refl y)) (g z k))
+    best-add P Q None y f q g b = (q, λ z k. ⊎-elim (λ p. absurd (b z p)) (λ e. subst (AsGood alg y) (sym e) (as-good-refl alg lawful y)) (g z k))
     best-add P Q (Some x) y f q g b = go (alg .as-good x y) refl
       where
         go : (t : Bool) → alg .as-good x y ≡ t → BestOf alg Q (cond t (Some x) (Some y))
         go true e = (f x (b .0), λ z k. ⊎-elim (λ p. b .1 z p) (λ h. subst (AsGood alg x) (sym h) (is-good x y e)) (g z k))
-        go false e = (q, λ z k. ⊎-elim (λ p. lawful .transitive y x z (not-good x y e) (b .1 z p)) (λ h. subst (AsGood alg y) (sym h) (good-refl y)) (g z k))
+        go false e = (q, λ z k. ⊎-elim (λ p. lawful .transitive y x z (not-good x y e) (b .1 z p)) (λ h. subst (AsGood alg y) (sym h) (as-good-refl alg lawful y)) (g z k))
 
 -- a candidate whose code is below c
 abbrev pub CandidateTo : {V : Type 0} → Net → Algebra V → ℕ → (ℕ → ℕ → Option V) → ℕ → ℕ → ℕ → V → Type 0

@@ -1,4 +1,4 @@
--- The table of best values by number of entries, grains and node.
+-- A cell of one entry more, from the row of one entry less.
 use mathlib.Core.Path.{_≡_, refl, sym, ap, _∙_, subst}
 use mathlib.Core.List.{List, [], _∷_}
 use Prim.Native.Nat.{ℕ, suc, _+_, _≤_, _<_}
@@ -9,7 +9,7 @@ use Rattle.std.specs.declared.option.Option.the-variants.{Some, None}
 use Rattle.netmap.specs.Net.{Net, Sound}
 use Rattle.segments.specs.Algebra.{Algebra, Laws, AsGood}
 use Rattle.segments.specs.declared.figures.Leg.{Leg}
-use Rattle.segments.specs.Segments.{Segment, SegmentList, list-end, list-value, list-grains, grains-of}
+use Rattle.segments.specs.Segments.{SegmentList, list-end, list-value, list-grains, grains-of}
 use Rattle.engine.specs.Cells.{Listed, BestOf, Cell, Candidate, Row}
 use Rattle.segments.proofs.NodesReached.{segment-node}
 use Rattle.segments.proofs.JoinedValues.{list-value-cons, as-good-refl}

@@ -1,8 +1,8 @@
--- From the table of best values to the quote.
+-- The list rebuilt from the chosen cell precedes every other within the order.
 use mathlib.Core.Path.{_≡_, refl, sym, ap, _∙_, subst}
-use mathlib.Core.List.{List, [], _∷_}
+use mathlib.Core.List.{List}
 use mathlib.Core.Logic.{_⊎_, inl, inr, ⊎-elim}
-use Prim.Native.Nat.{ℕ, suc, _+_, _*_, _/_, _≤_, _<_}
+use Prim.Native.Nat.{ℕ, _*_, _≤_, _<_}
 use native.Mathlib.Nat.{le-div-iff-mul-le}
 use native.Mathlib.Omega.{arith}
 use lib.ListN.{length}
@@ -11,20 +11,18 @@ use Rattle.std.specs.declared.option.Option.{Option}
 use Rattle.std.specs.declared.option.Option.the-variants.{Some, None}
 use Rattle.netmap.specs.Net.{Net, Sound}
 use Rattle.segments.specs.Algebra.{Algebra, Laws, AsGood, Better}
-use Rattle.segments.specs.declared.figures.Figures.{Figures}
 use Rattle.segments.specs.declared.order.Order.{Order}
 use Rattle.segments.specs.declared.figures.Leg.{Leg}
-use Rattle.segments.specs.Segments.{Segment, SegmentList, list-end, list-value, list-delay, list-grains, grains-of}
-use Rattle.segments.specs.Orders.{Serves, Within, Smaller, Precedes}
-use Rattle.engine.specs.Quotes.{Quoted, Unserved}
+use Rattle.segments.specs.Segments.{SegmentList, list-end, list-value, list-grains}
+use Rattle.segments.specs.Orders.{Within, Precedes}
+use Rattle.engine.specs.Quotes.{Unserved}
 use Rattle.engine.specs.Fronts.{most-grains}
 use Rattle.engine.specs.Chosen.{Chosen}
-use Rattle.segments.proofs.JoinedValues.{list-value-cons}
 use Rattle.segments.proofs.PrecedenceStrict.{compared}
 use Rattle.engine.specs.Cells.{Listed, Cell, Row}
 use Rattle.engine.proofs.CellExtended.{found}
-use Rattle.engine.specs.Rebuilds.{Attains, Rebuilt}
-use Rattle.engine.proofs.RebuiltFirst.{Unbeaten, rebuilt-first}
+use Rattle.engine.specs.Rebuilds.{Rebuilt}
+use Rattle.engine.proofs.RebuiltFirst.{rebuilt-first}
 
 module _ {V : Type 0} (net : Net) (alg : Algebra V) (o : Order) where
   -- the list's cell in the table

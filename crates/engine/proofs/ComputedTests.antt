@@ -1,11 +1,11 @@
--- Tests that antt computes: each gives the proof of what it tests where it passes.
+-- Tests that are computed: each gives the proof of what it tests where it passes.
 use mathlib.Core.Path.{_≡_, refl, sym, subst}
-use mathlib.Core.Bool.{Bool, true, false, not}
+use mathlib.Core.Bool.{Bool, true, false}
 use mathlib.Core.List.{List, [], _∷_}
-use mathlib.Core.Logic.{_⊎_, inl, inr, ⊎-elim}
+use mathlib.Core.Logic.{_⊎_, ⊎-elim}
 use Prim.Native.Nat.{ℕ, zero, suc, _≤_, _<_}
 use native.Mathlib.Omega.{arith}
-use lib.Dec.{T, T-not, leb, ltb, eqb, leb→le, ltb→lt, eqb→eq, eqb-refl, le→leb}
+use lib.Dec.{T, leb, eqb, leb→le, eqb→eq, eqb-refl, le→leb}
 use lib.ListN.{getD}
 use Rattle.std.proofs.shelf.Tests.{cases-eq}
 use Rattle.std.specs.declared.option.Option.{Option}

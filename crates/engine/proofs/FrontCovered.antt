@@ -1,5 +1,5 @@
 -- Offering the table's cells gives the front of all lists.
-use mathlib.Core.Path.{_≡_, refl, sym, ap, _∙_, subst}
+use mathlib.Core.Path.{subst}
 use Prim.Native.Nat.{ℕ, _≤_}
 use native.Mathlib.Omega.{arith}
 use Rattle.segments.specs.Algebra.{Algebra, Laws, AsGood}

@@ -16,7 +16,7 @@ use Rattle.netmap.specs.declared.denial.Denial.{Denial}
 use Rattle.netmap.specs.Net.{Net, Sound}
 use Rattle.segments.specs.Algebra.{Algebra, Laws}
 use Rattle.segments.specs.declared.order.Order.{Order}
-use Rattle.engine.specs.Cells.{best-of, Filled-to}
+use Rattle.engine.specs.Cells.{best-of, FilledTo}
 use Rattle.engine.specs.Chosen.{Whole}
 use Rattle.engine.specs.Fronts.{Optimal, Front, Had, held, most-grains}
 use Rattle.engine.specs.Keepers.{Accepted}
@@ -35,7 +35,7 @@ optimal-same : {V : Type 0} (good : V → V → Bool) (P Q : ℕ → V → Type 
 optimal-same good P Q f g d x o = record { member = f d x (o .member); best = λ e y q. o .best e y (g e y q) }
 
 module _ {V : Type 0} (net : Net) (alg : Algebra V) (lawful : Laws alg) (sound : Sound net) (o : Order) (n : ℕ) (node : o .source < net .nodes) (one : 1 ≤ o .grain .0) (table : List (Option V))
-    (filled : Filled-to net alg (o .grain .0) (o .target) n (most-grains o) (o .limit .0) table) (slots : List (Option V))
+    (filled : FilledTo net alg (o .grain .0) (o .target) n (most-grains o) (o .limit .0) table) (slots : List (Option V))
     (gathered : Gathered (alg .as-good) (λ m e. best-of n (most-grains o) table m e (o .source)) (Whole (o .limit .0) (most-grains o)) slots) where
   abbrev Offers : ℕ → V → Type 0
   Offers = Offered net alg lawful sound o node one (best-of n (most-grains o) table) filled
@@ -78,13 +78,13 @@ module _ {V : Type 0} (net : Net) (alg : Algebra V) (o : Order) (room : Room) (b
 -- the slots that the code counts to are those that the order leaves
 pub front-returned : {V : Type 0} (net : Net) (alg : Algebra V) → Laws alg → Sound net → (o : Order) (room : Room) (n top : ℕ) (table before part : List (Option V)) (count : ℕ)
     → order-denial net o room ≡ None → top ≡ most-grains o → top + 1 ≤ length before
-    → Filled-to net alg (o .grain .0) (o .target) n top (o .limit .0) table → Gathered (alg .as-good) (λ m e. best-of n top table m e (o .source)) (Whole (o .limit .0) top) part
+    → FilledTo net alg (o .grain .0) (o .target) n top (o .limit .0) table → Gathered (alg .as-good) (λ m e. best-of n top table m e (o .source)) (Whole (o .limit .0) top) part
     → length part ≡ length (take (top + 1 - 0) before) → count ≡ held part
     → FrontCall net alg o room before (part ++ drop (top + 1 - 0) before) (Ok count)
 front-returned net alg lawful sound o room n top table before part count none top-is space filled gathered long count-is =
     let a = admitted net o room none in
     let had = front-had net alg lawful sound o n (a .source) (a .grain-low) table
-    (subst (λ t. Filled-to net alg (o .grain .0) (o .target) n t (o .limit .0) table) top-is filled) part
+    (subst (λ t. FilledTo net alg (o .grain .0) (o .target) n t (o .limit .0) table) top-is filled) part
     (subst (λ t. Gathered (alg .as-good) (λ m e. best-of n t table m e (o .source)) (Whole (o .limit .0) t) part) top-is gathered) in
     let all : length part ≡ most-grains o + 1 = long ∙ first-long (top + 1) before space ∙ ap (λ t. t + 1) top-is in
     let cut : top + 1 - 0 ≡ most-grains o + 1 = omega (arith, top-is) in

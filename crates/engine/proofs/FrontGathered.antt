@@ -7,7 +7,7 @@ use Prim.Native.Nat.{ℕ, _+_, _-_, _≤_, _<_}
 use native.Mathlib.Nat.{zero-add}
 use native.Mathlib.Omega.{arith}
 use lib.ListN.{length, getD}
-use Rattle.std.proofs.shelf.Tests.{cases-eq, cases-lt, lt-ltb}
+use Rattle.std.proofs.shelf.Tests.{cases-lt, lt-ltb}
 use Rattle.std.proofs.shelf.Lists.{getD-past}
 use Rattle.std.specs.declared.option.Option.{Option}
 use Rattle.std.specs.declared.option.Option.the-variants.{Some, None}
@@ -18,6 +18,7 @@ use Rattle.engine.specs.Chosen.{Passed, Whole}
 use Rattle.engine.specs.Keepers.{OfferBy, OfferCall}
 use Rattle.segments.proofs.OptionValues.{some-same, none-some}
 use Rattle.engine.specs.Offers.{Gathered}
+use Rattle.engine.proofs.CellsPassed.{passed-split, passed-more, column-passed, column-covered, all-passed, all-covered, none-passed}
 
 module _ {V : Type 0} (good : V → V → Bool) (best : ℕ → ℕ → Option V) where
   pub gather-same : (S R : ℕ → ℕ → Type 0) (slots : List (Option V)) → ((m e : ℕ) → S m e → R m e) → ((m e : ℕ) → R m e → S m e) → Gathered good best S slots → Gathered good best R slots
@@ -29,19 +30,12 @@ module _ {V : Type 0} (good : V → V → Bool) (best : ℕ → ℕ → Option V
   }
 
   module _ (limit d l : ℕ) where
-    split : (m e : ℕ) → Passed limit d (l + 1) m e → Passed limit d l m e ⊎ ((m ≡ l) × (e ≡ d))
-    split m e p = ⊎-elim (λ (h : e < d). inl (p .0, inl h))
-        (λ (h : (e ≡ d) × (m < l + 1)). ⊎-elim (λ (k : m ≡ l). inr (k, h .0)) (λ (k : m ≡ l → ⊥). inl (p .0, inr (h .0, omega (arith, h .1, k)))) (cases-eq m l)) (p .1)
-
-    wider : (m e : ℕ) → Passed limit d l m e → Passed limit d (l + 1) m e
-    wider m e p = (p .0, ⊎-elim (λ h. inl h) (λ h. inr (h .0, omega (arith, h .1))) (p .1))
-
     pub gather-none : (slots : List (Option V)) → best l d ≡ None → Gathered good best (Passed limit d l) slots → Gathered good best (Passed limit d (l + 1)) slots
     gather-none slots empty k = record {
       pairs = k .pairs;
       front = k .front;
-      only = λ e y a. let o = k .only e y a in (o .0, wider (o .0) e (o .1), o .2);
-      all = λ m e y p is. ⊎-elim (λ q. k .all m e y q is) (λ (q : (m ≡ l) × (e ≡ d)). absurd (none-some (best m e) y (ap (λ j. best j e) (q .0) ∙ ap (λ j. best l j) (q .1) ∙ empty) is)) (split m e p);
+      only = λ e y a. let o = k .only e y a in (o .0, passed-more limit d l (o .0) e (o .1), o .2);
+      all = λ m e y p is. ⊎-elim (λ q. k .all m e y q is) (λ (q : (m ≡ l) × (e ≡ d)). absurd (none-some (best m e) y (ap (λ j. best j e) (q .0) ∙ ap (λ j. best l j) (q .1) ∙ empty) is)) (passed-split limit d l m e p);
     }
 
     pub gather-some : (x : V) (before after : List (Option V)) (r : Result (Unit {0}) Denial) → l ≤ limit → best l d ≡ Some x → d < length before → OfferCall good d x before after r
@@ -53,22 +47,18 @@ module _ {V : Type 0} (good : V → V → Bool) (best : ℕ → ℕ → Option V
           front = by .1 (k .pairs) (k .front);
           only = λ e y a. ⊎-elim
               (λ (q : (d ≡ e) × (x ≡ y)). (l, (within, inr (sym (q .0), omega arith)), ap (λ j. best l j) (sym (q .0)) ∙ cell ∙ ap Some (q .1)))
-              (λ q. let o = k .only e y q in (o .0, wider (o .0) e (o .1), o .2)) a;
+              (λ q. let o = k .only e y q in (o .0, passed-more limit d l (o .0) e (o .1), o .2)) a;
           all = λ m e y p is. ⊎-elim
               (λ q. inr (k .all m e y q is))
               (λ (q : (m ≡ l) × (e ≡ d)). inl (sym (q .1), sym (some-same (best m e) y x is (ap (λ j. best j e) (q .0) ∙ ap (λ j. best l j) (q .1) ∙ cell))))
-              (split m e p);
+              (passed-split limit d l m e p);
         }
 
   pub gather-next : (limit d l : ℕ) (slots : List (Option V)) → limit < l → Gathered good best (Passed limit d l) slots → Gathered good best (Passed limit (d + 1) 0) slots
-  gather-next limit d l slots past = gather-same (Passed limit d l) (Passed limit (d + 1) 0) slots
-      (λ m e p. (p .0, inl (⊎-elim (λ (h : e < d). omega arith) (λ (h : (e ≡ d) × (m < l)). omega (arith, h .0)) (p .1))))
-      (λ m e p. (p .0, ⊎-elim (λ (h : e < d + 1). ⊎-elim (λ (k : e ≡ d). inr (k, omega (arith, p .0, past))) (λ (k : e ≡ d → ⊥). inl (omega (arith, h, k))) (cases-eq e d)) (λ (h : (e ≡ d + 1) × (m < 0)). absurd (omega (arith, h .1))) (p .1)))
+  gather-next limit d l slots past = gather-same (Passed limit d l) (Passed limit (d + 1) 0) slots (λ m e. column-passed limit d l m e) (λ m e. column-covered limit d l m e past)
 
   pub gather-all : (limit top d : ℕ) (slots : List (Option V)) → d ≡ top + 1 → Gathered good best (Passed limit d 0) slots → Gathered good best (Whole limit top) slots
-  gather-all limit top d slots past = gather-same (Passed limit d 0) (Whole limit top) slots
-      (λ m e p. (p .0, ⊎-elim (λ (h : e < d). omega (arith, h, past)) (λ (h : (e ≡ d) × (m < 0)). absurd (omega (arith, h .1))) (p .1)))
-      (λ m e p. (p .0, inl (omega (arith, p .1, past))))
+  gather-all limit top d slots past = gather-same (Passed limit d 0) (Whole limit top) slots (λ m e. all-passed limit top d m e past) (λ m e. all-covered limit top d m e past)
 
   pub gather-first : (limit count : ℕ) (before slots : List (Option V)) → length slots ≡ count → Blank 0 count before slots → Gathered good best (Passed limit 0 0) slots
   gather-first limit count before slots long blank = record {
@@ -79,5 +69,5 @@ module _ {V : Type 0} (good : V → V → Bool) (best : ℕ → ℕ → Option V
       complete = λ d x o. absurd (o .member);
     };
     only = λ e y a. absurd a;
-    all = λ m e y p. absurd (⊎-elim (λ (h : e < 0). omega arith) (λ (h : (e ≡ 0) × (m < 0)). omega (arith, h .1)) (p .1));
+    all = λ m e y p. absurd (none-passed limit m e p);
   }

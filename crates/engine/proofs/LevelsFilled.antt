@@ -13,18 +13,18 @@ use Rattle.segments.specs.Algebra.{Algebra, Laws}
 use native.Mathlib.Nat.{mul-le-mul-right, zero-mul, zero-add}
 use Rattle.segments.specs.declared.figures.Leg.{Leg}
 use Rattle.segments.specs.Segments.{SegmentList, list-end, list-grains}
-use Rattle.engine.specs.Cells.{slot, best-of, better-of, Blank, Kept, Levelling, Filled-to, Row, Cell}
+use Rattle.engine.specs.Cells.{slot, best-of, better-of, Blank, Kept, LevelTo, FilledTo, Row, Cell}
 use Rattle.engine.proofs.CellExtended.{cell-none}
 use Rattle.engine.proofs.IndexSplit.{last-or}
 use Rattle.engine.proofs.CellPlaces.{row-before, slot-before, slot-left}
 
-pub level-start : {V : Type 0} (net : Net) (alg : Algebra V) (grain n top l : ℕ) (before : List (Option V)) → Levelling net alg grain n top l 0 before before
+pub level-start : {V : Type 0} (net : Net) (alg : Algebra V) (grain n top l : ℕ) (before : List (Option V)) → LevelTo net alg grain n top l 0 before before
 level-start net alg grain n top l before = record { kept = λ i h. refl; cells = λ target good d u small h. absurd (omega arith) }
 
 pub level-step : {V : Type 0} (net : Net) (alg : Algebra V) (grain n top l v : ℕ) (before xs ys : List (Option V)) → n ≡ net .nodes
-    → Levelling net alg grain n top l v before xs → Kept (slot n top (l + 1) v 0) xs ys
+    → LevelTo net alg grain n top l v before xs → Kept (slot n top (l + 1) v 0) xs ys
     → ((target : ℕ) → Row net alg grain target top l (best-of n top xs l) → (d : ℕ) → d ≤ top → Cell net alg grain target (l + 1) d v (best-of n top ys (l + 1) d v))
-    → Levelling net alg grain n top l (v + 1) before ys
+    → LevelTo net alg grain n top l (v + 1) before ys
 level-step net alg grain n top l v before xs ys nodes inv kept cells = record {
   kept = λ i h.
       let first : slot n top (l + 1) 0 0 ≤ slot n top (l + 1) v 0 = omega (arith, mul-le-mul-right {m = (l + 1) * n + 0} {n = (l + 1) * n + v} (top + 1) (omega arith)) in
@@ -39,7 +39,7 @@ level-step net alg grain n top l v before xs ys nodes inv kept cells = record {
 }
 
 pub fill-step : {V : Type 0} (net : Net) (alg : Algebra V) (grain target n top l : ℕ) (xs ys : List (Option V)) → n ≡ net .nodes
-    → Filled-to net alg grain target n top l xs → Levelling net alg grain n top l n xs ys → Filled-to net alg grain target n top (l + 1) ys
+    → FilledTo net alg grain target n top l xs → LevelTo net alg grain n top l n xs ys → FilledTo net alg grain target n top (l + 1) ys
 fill-step net alg grain target n top l xs ys nodes filled level m h d v small on = ⊎-elim
     (λ (e : m ≡ l + 1). subst (λ j. Cell net alg grain target j d v (best-of n top ys j d v)) (sym e) (level .cells target (filled l (omega arith)) d v small (omega arith)))
     (λ (ne : m ≡ l + 1 → ⊥).

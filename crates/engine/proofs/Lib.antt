@@ -2,6 +2,7 @@ pub mod BoundKept
 pub mod CandidatesBest
 pub mod CellExtended
 pub mod CellPlaces
+pub mod CellsPassed
 pub mod ChosenFirst
 pub mod ComputedTests
 pub mod ExamplesSettled

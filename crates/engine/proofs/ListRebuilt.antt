@@ -1,14 +1,13 @@
 -- The list rebuilt from the table, entry by entry.
 use mathlib.Core.Path.{_≡_, refl, sym, ap, _∙_, subst}
 use mathlib.Core.List.{List, [], _∷_, _++_, append-assoc}
-use mathlib.Core.Logic.{_⊎_, inl, inr, ⊎-elim}
+use mathlib.Core.Logic.{_⊎_, ⊎-elim}
 use Prim.Native.Nat.{ℕ, suc, _+_, _-_, _*_, _≤_, _<_}
-use native.Mathlib.Nat.{add-assoc, add-comm, zero-add, add-zero}
 use native.Mathlib.Numerals.{add-one}
 use native.Mathlib.Omega.{arith}
-use lib.ListN.{length, getD, set, take, drop, take-append-drop}
+use lib.ListN.{length, set, take, drop, take-append-drop}
 use lib.Seq.{drop-set-lt}
-use Rattle.std.proofs.shelf.Lists.{take-more-set, append-nil, drop-more}
+use Rattle.std.proofs.shelf.Lists.{take-more-set, append-nil}
 use Rattle.std.specs.declared.option.Option.{Option}
 use Rattle.std.specs.declared.option.Option.the-variants.{Some, None}
 use Rattle.netmap.specs.Net.{Net, Sound}
@@ -17,8 +16,8 @@ use Rattle.engine.specs.declared.rebuilding.Found.{Found}
 use Rattle.segments.specs.Entries.{Entry}
 use Rattle.engine.proofs.LegsBounded.{LegAt}
 use Rattle.segments.specs.declared.figures.Leg.{Leg}
-use Rattle.segments.specs.Segments.{Segment, list-delay, grains-of}
-use Rattle.engine.specs.Cells.{slot, best-of, Filled-to, Row}
+use Rattle.segments.specs.Segments.{list-delay, grains-of}
+use Rattle.engine.specs.Cells.{Row}
 use Rattle.engine.specs.Rebuilds.{Attains, Rebuilt, FoundAt, TriedCode, Written}
 use Rattle.segments.proofs.SegmentsFunctional.{segments-functional}
 use Rattle.engine.proofs.RebuiltMade.{attains-some}
@@ -26,6 +25,7 @@ use Rattle.segments.proofs.OptionValues.{some-same, none-some}
 use Rattle.segments.proofs.ListExtended.{delay-push}
 use Rattle.engine.proofs.IndexSplit.{last-or}
 use Rattle.engine.proofs.RowFilled.{segment-below}
+use Rattle.segments.proofs.JoinedValues.{as-good-refl}
 
 module _ {V : Type 0} (net : Net) (alg : Algebra V) (lawful : Laws alg) (grain : ℕ) (total : V) (row : ℕ → ℕ → Option V) (p : V) (d v code : ℕ) where
   pub code-none : Entry net alg v code None → TriedCode net alg grain total row p d v code None
@@ -56,14 +56,11 @@ module _ {V : Type 0} (net : Net) (alg : Algebra V) (lawful : Laws alg) (grain :
             whole-is ∙ ap (alg .join (alg .join p (e .value))) (some-same (row (d - g) (e .to)) x (a .suffix) below (below-is a))
             ∙ ap (λ (h : Leg V). alg .join (alg .join p (h .value)) (a .suffix)) (sym (same-leg a)) ∙ a .attained
 
-        good-refl : (y : V) → AsGood alg y y
-        good-refl y = ⊎-elim (λ h. h) (λ h. h) (lawful .total y y)
-
         pub code-worse : (AsGood alg whole total → ⊥) → TriedCode net alg grain total row p d v code None
-        code-worse bad a = bad (subst (AsGood alg whole) (whole-total a) (good-refl whole))
+        code-worse bad a = bad (subst (AsGood alg whole) (whole-total a) (as-good-refl alg lawful whole))
 
         pub code-better : (AsGood alg total whole → ⊥) → TriedCode net alg grain total row p d v code None
-        code-better bad a = bad (subst (AsGood alg total) (sym (whole-total a)) (good-refl total))
+        code-better bad a = bad (subst (AsGood alg total) (sym (whole-total a)) (as-good-refl alg lawful total))
 
         pub code-found : AsGood alg whole total → AsGood alg total whole → (f : Found V) → f ≡ record { code = code; leg = e; rest = d - g } → TriedCode net alg grain total row p d v code (Some f)
         code-found one two f f-is =
@@ -92,7 +89,7 @@ module _ {V : Type 0} (net : Net) (alg : Algebra V) (lawful : Laws alg) (grain :
   tried-all below past c = below (c .0) (omega (arith, past, segment-below net alg v (c .0) (c .1 .leg) (c .1 .segment))) (c .1)
 
 -- i entries are written, and what is left goes on from the node v with d grains after the prefix p
-pub record Rebuilding {V : Type 0} (net : Net) (alg : Algebra V) (grain top : ℕ) (total : V) (best : ℕ → ℕ → ℕ → Option V) (start-d start-v entries : ℕ) (p : V) (d v i delay : ℕ) (before after : List ℕ) : Type 0 where
+pub record RebuiltTo {V : Type 0} (net : Net) (alg : Algebra V) (grain top : ℕ) (total : V) (best : ℕ → ℕ → ℕ → Option V) (start-d start-v entries : ℕ) (p : V) (d v i delay : ℕ) (before after : List ℕ) : Type 0 where
   pub left : ℕ
   pub count : left + i ≡ entries
   pub node : v < net .nodes
@@ -107,7 +104,7 @@ pub record Rebuilding {V : Type 0} (net : Net) (alg : Algebra V) (grain top : �
   pub rest : drop i after ≡ drop i before
 
 module _ {V : Type 0} (net : Net) (alg : Algebra V) (lawful : Laws alg) (sound : Sound net) (grain top : ℕ) (total : V) (best : ℕ → ℕ → ℕ → Option V) (sd sv entries : ℕ) where
-  pub list-start : (p : V) (before : List ℕ) → p ≡ alg .neutral → sv < net .nodes → sd ≤ top → best entries sd sv ≡ Some total → Rebuilding net alg grain top total best sd sv entries p sd sv 0 0 before before
+  pub list-start : (p : V) (before : List ℕ) → p ≡ alg .neutral → sv < net .nodes → sd ≤ top → best entries sd sv ≡ Some total → RebuiltTo net alg grain top total best sd sv entries p sd sv 0 0 before before
   list-start p before p-is node small cell = record {
     left = entries;
     count = omega arith;
@@ -123,7 +120,7 @@ module _ {V : Type 0} (net : Net) (alg : Algebra V) (lawful : Laws alg) (sound :
     rest = refl;
   }
 
-  module _ (p : V) (d v i delay : ℕ) (before xs : List ℕ) (inv : Rebuilding net alg grain top total best sd sv entries p d v i delay before xs) (more : i < entries) where
+  module _ (p : V) (d v i delay : ℕ) (before xs : List ℕ) (inv : RebuiltTo net alg grain top total best sd sv entries p d v i delay before xs) (more : i < entries) where
     left-is : inv .left ≡ suc (entries - 1 - i)
     left-is = omega (arith, inv .count, more, add-one (entries - 1 - i))
 
@@ -132,7 +129,7 @@ module _ {V : Type 0} (net : Net) (alg : Algebra V) (lawful : Laws alg) (sound :
         attains-some net alg grain lawful sound target top entries best good total p (entries - 1 - i) d v (inv .suffix) (omega (arith, left-is, inv .count)) (inv .small) (inv .node) (subst (λ m. best m d v ≡ Some (inv .suffix)) left-is (inv .cell)) (inv .whole)
 
     pub list-step : (f : Found V) (q : V) → i < length xs → FoundAt net alg grain total (best (entries - 1 - i)) p d v f → q ≡ alg .join p (f .leg .value)
-        → Rebuilding net alg grain top total best sd sv entries q (f .rest) (f .leg .to) (i + 1) (delay + f .leg .delay .0) before (set xs i (f .code))
+        → RebuiltTo net alg grain top total best sd sv entries q (f .rest) (f .leg .to) (i + 1) (delay + f .leg .delay .0) before (set xs i (f .code))
     list-step f q within at q-is =
         let m = entries - 1 - i in
         let a = at .attains in
@@ -166,7 +163,7 @@ module _ {V : Type 0} (net : Net) (alg : Algebra V) (lawful : Laws alg) (sound :
         dropped : (i : ℕ) (xs ys : List ℕ) → drop i xs ≡ drop i ys → drop (i + 1) xs ≡ drop (i + 1) ys
         dropped i xs ys e = sym (Rattle.std.proofs.shelf.Lists.drop-drop 1 i xs) ∙ ap (λ l. drop 1 l) e ∙ Rattle.std.proofs.shelf.Lists.drop-drop 1 i ys
 
-  pub list-end-of : (p : V) (d v i delay : ℕ) (before xs : List ℕ) → Rebuilding net alg grain top total best sd sv entries p d v i delay before xs → entries ≤ i → Written net alg grain total best sd sv entries delay before xs
+  pub list-end-of : (p : V) (d v i delay : ℕ) (before xs : List ℕ) → RebuiltTo net alg grain top total best sd sv entries p d v i delay before xs → entries ≤ i → Written net alg grain total best sd sv entries delay before xs
   list-end-of p d v i delay before xs inv past =
       let none : inv .left ≡ 0 = omega (arith, inv .count, past) in
       let all : i ≡ entries = omega (arith, inv .count, past) in

@@ -2,8 +2,7 @@
 use mathlib.Core.Path.{_≡_, refl, sym, subst}
 use mathlib.Core.List.{List, [], _∷_}
 use mathlib.Core.Logic.{_⊎_, inl, inr}
-use Prim.Native.Nat.{ℕ, _*_, _≤_, _<_}
-use native.Mathlib.Omega.{arith}
+use Prim.Native.Nat.{ℕ, _*_, _≤_}
 use lib.Dec.{T}
 use lib.ListN.{length, getD}
 use Rattle.std.specs.declared.option.Option.{Option}
@@ -17,7 +16,7 @@ use Rattle.segments.specs.declared.figures.Leg.{Leg}
 use Rattle.segments.specs.Segments.{SegmentList, list-end, list-value, list-delay, list-grains}
 use Rattle.segments.specs.Orders.{Within, Smaller, Precedes}
 use Rattle.engine.specs.Quotes.{Quoted, Unserved}
-use Rattle.engine.specs.Fronts.{InSlot, Had, Front, Optimal}
+use Rattle.engine.specs.Fronts.{InSlot, Had, Front}
 use Rattle.segments.proofs.JoinedValues.{as-good-refl}
 use Rattle.segments.proofs.OptionValues.{some-same}
 use Rattle.engine.proofs.FrontCovered.{Covers, optimal-up, optimal-down}

@@ -6,13 +6,13 @@ use Prim.Native.Nat.{ℕ, zero, suc, _+_, _-_, _≤_, _<_}
 use native.Mathlib.Omega.{arith}
 use lib.ListN.{length, getD}
 use Rattle.std.specs.declared.option.Option.{Option}
-use Rattle.std.specs.declared.option.Option.the-variants.{Some, None}
+use Rattle.std.specs.declared.option.Option.the-variants.{Some}
 use Rattle.netmap.specs.declared.link.Link.{Link}
 use Rattle.netmap.specs.Net.{Net, link-at}
 use Rattle.segments.specs.Algebra.{Algebra, Laws, AsGood}
-use Rattle.segments.specs.Paths.{IsPath, IsBest, Ecmp, total-weight, total-delay, path-value}
+use Rattle.segments.specs.Paths.{IsPath, Ecmp, total-weight, total-delay, path-value}
 use Rattle.segments.specs.declared.figures.Leg.{Leg}
-use Rattle.segments.specs.Segments.{NodeSegment, AdjacencySegment, Segment, SegmentList}
+use Rattle.segments.specs.Segments.{Segment, SegmentList}
 use Rattle.segments.proofs.JoinedValues.{path-value-cons}
 use Rattle.segments.proofs.OptionValues.{some-same}
 use Rattle.segments.proofs.SegmentsFunctional.{segments-functional}

@@ -21,7 +21,7 @@ use Rattle.segments.specs.Algebra.{Algebra, Laws}
 use Rattle.engine.specs.declared.checks.Room.{Room}
 use Rattle.engine.specs.declared.choosing.Choice.{Choice}
 use Rattle.engine.specs.Calls.{of-one, order-questions, order-denial, Searched, QuoteBy, QuoteCall}
-use Rattle.engine.specs.Cells.{best-of, Filled-to, Row}
+use Rattle.engine.specs.Cells.{best-of, FilledTo, Row}
 use Rattle.engine.specs.Chosen.{LeadOf, Whole}
 use Rattle.engine.specs.Fronts.{most-grains}
 use Rattle.engine.specs.Rebuilds.{Written}
@@ -32,7 +32,7 @@ use Rattle.engine.proofs.QuoteFromTable.{quoted}
 use Rattle.engine.proofs.SourceScanned.{lead-chosen}
 
 module _ {V : Type 0} (net : Net) (alg : Algebra V) (lawful : Laws alg) (sound : Sound net) (o : Order) (n top : ℕ) (top-is : top ≡ most-grains o) (node : o .source < net .nodes) (one : 1 ≤ o .grain .0) (table : List (Option V))
-    (filled : Filled-to net alg (o .grain .0) (o .target) n top (o .limit .0) table) where
+    (filled : FilledTo net alg (o .grain .0) (o .target) n top (o .limit .0) table) where
   abbrev best : ℕ → ℕ → ℕ → Option V
   best = best-of n top table
 

@@ -1,24 +1,23 @@
 -- The quote, and the pairs of the front, from the table of best values.
-use mathlib.Core.Path.{_≡_, refl, sym, ap, _∙_, subst}
-use mathlib.Core.List.{List, [], _∷_}
-use Prim.Native.Nat.{ℕ, suc, _+_, _*_, _/_, _≤_, _<_}
+use mathlib.Core.Path.{_≡_, sym, _∙_, subst}
+use mathlib.Core.List.{List}
+use Prim.Native.Nat.{ℕ, _≤_, _<_}
 use native.Mathlib.Omega.{arith}
 use lib.ListN.{length}
 use Rattle.std.specs.declared.option.Option.{Option}
-use Rattle.std.specs.declared.option.Option.the-variants.{Some, None}
+use Rattle.std.specs.declared.option.Option.the-variants.{Some}
 use Rattle.netmap.specs.Net.{Net, Sound}
 use Rattle.segments.specs.Algebra.{Algebra, Laws, AsGood}
 use Rattle.segments.specs.declared.figures.Figures.{Figures}
 use Rattle.segments.specs.declared.order.Order.{Order}
 use Rattle.segments.specs.declared.figures.Leg.{Leg}
-use Rattle.segments.specs.Segments.{SegmentList, list-end, list-value, list-delay, list-grains}
-use Rattle.segments.specs.Orders.{Serves, Within}
+use Rattle.segments.specs.Segments.{list-value, list-delay, list-grains}
 use Rattle.engine.specs.Quotes.{Quoted}
 use Rattle.engine.specs.Fronts.{Had, most-grains}
 use Rattle.engine.specs.Cells.{Listed, Cell, Row}
 use Rattle.engine.proofs.CellExtended.{found}
 use Rattle.engine.specs.Rebuilds.{Rebuilt}
-use Rattle.engine.proofs.RebuiltMade.{Made, rebuilt-made}
+use Rattle.engine.proofs.RebuiltMade.{rebuilt-made}
 use Rattle.engine.specs.Chosen.{Chosen}
 use Rattle.engine.proofs.ChosenFirst.{listed-within, within-listed, within-grains, rebuilt-precedes}
 use Rattle.engine.proofs.FrontCovered.{Covers}

@@ -1,4 +1,4 @@
--- Rebuilding the list that precedes every other from the table of best values.
+-- The rebuilt list has the smallest codes of all lists that attain the total.
 use mathlib.Core.Path.{_≡_, refl, sym, ap, _∙_, subst}
 use mathlib.Core.List.{List, [], _∷_}
 use mathlib.Core.Logic.{_⊎_, inl, inr, ⊎-elim}
@@ -7,7 +7,7 @@ use native.Mathlib.Omega.{arith}
 use lib.ListN.{length}
 use Rattle.std.proofs.shelf.Tests.{cases-order}
 use Rattle.std.specs.declared.option.Option.{Option}
-use Rattle.std.specs.declared.option.Option.the-variants.{Some, None}
+use Rattle.std.specs.declared.option.Option.the-variants.{Some}
 use Rattle.netmap.specs.Net.{Net, Sound}
 use Rattle.segments.specs.Algebra.{Algebra, Laws, AsGood}
 use Rattle.segments.specs.declared.figures.Leg.{Leg}

@@ -1,18 +1,18 @@
--- The scan for the smallest code always finds one, and what it finds is a list of the chosen cell.
+-- Some code always attains the total, and the rebuilt list has the figures of its cell.
 use mathlib.Core.Path.{_≡_, refl, sym, ap, _∙_, subst}
 use mathlib.Core.List.{List, [], _∷_}
 use Prim.Native.Nat.{ℕ, suc, _+_, _≤_, _<_}
 use native.Mathlib.Omega.{arith}
 use lib.ListN.{length}
 use Rattle.std.specs.declared.option.Option.{Option}
-use Rattle.std.specs.declared.option.Option.the-variants.{Some, None}
+use Rattle.std.specs.declared.option.Option.the-variants.{Some}
 use Rattle.netmap.specs.Net.{Net, Sound}
-use Rattle.segments.specs.Algebra.{Algebra, Laws, AsGood}
+use Rattle.segments.specs.Algebra.{Algebra, Laws}
 use Rattle.segments.specs.declared.figures.Leg.{Leg}
 use Rattle.segments.specs.Segments.{Segment, SegmentList, list-end, list-value, list-grains, grains-of}
 use Rattle.segments.proofs.JoinedValues.{list-value-cons}
 use Rattle.segments.proofs.NodesReached.{segment-node}
-use Rattle.engine.specs.Cells.{Listed, Cell, Row, Candidate}
+use Rattle.engine.specs.Cells.{Listed, Cell, Row}
 use Rattle.engine.proofs.CellExtended.{candidate-listed, listed-candidate}
 use Rattle.engine.specs.Rebuilds.{Attains, Rebuilt}
 

@@ -21,21 +21,21 @@ use Rattle.engine.proofs.CellPlaces.{slot-before}
 use Rattle.engine.proofs.CandidatesBest.{CandidateTo, best-same, cand-none, cand-far, cand-merge}
 
 -- the row from the place `at` on holds the best candidates of the codes below c, and all before it stays
-pub record Rowing {V : Type 0} (net : Net) (alg : Algebra V) (grain top : ℕ) (row : ℕ → ℕ → Option V) (at v c : ℕ) (before xs : List (Option V)) : Type 0 where
+pub record RowTo {V : Type 0} (net : Net) (alg : Algebra V) (grain top : ℕ) (row : ℕ → ℕ → Option V) (at v c : ℕ) (before xs : List (Option V)) : Type 0 where
   pub kept : Kept at before xs
   pub best : (d : ℕ) → d ≤ top → BestOf alg (CandidateTo net alg grain row d v c) (getD xs (at + d) None)
 
 module _ {V : Type 0} (net : Net) (alg : Algebra V) (lawful : Laws alg) (grain n top l at v c : ℕ) (before xs : List (Option V))
     (at-is : at ≡ slot n top (l + 1) v 0) (nodes : n ≡ net .nodes)
-    (inv : Rowing net alg grain top (best-of n top before l) at v c before xs) where
-  pub row-none : Entry net alg v c None → Rowing net alg grain top (best-of n top before l) at v (c + 1) before xs
+    (inv : RowTo net alg grain top (best-of n top before l) at v c before xs) where
+  pub row-none : Entry net alg v c None → RowTo net alg grain top (best-of n top before l) at v (c + 1) before xs
   row-none none = record { kept = inv .kept; best = λ d small. cand-none net alg lawful grain (best-of n top before l) d v c (getD xs (at + d) None) (inv .best d small) none }
 
   module _ (e : Leg V) (does : LegAt net alg v c e) where
-    pub row-far : top < grains-of grain (e .delay .0) → Rowing net alg grain top (best-of n top before l) at v (c + 1) before xs
+    pub row-far : top < grains-of grain (e .delay .0) → RowTo net alg grain top (best-of n top before l) at v (c + 1) before xs
     row-far far = record { kept = inv .kept; best = λ d small. cand-far net alg lawful grain (best-of n top before l) d v c (getD xs (at + d) None) (inv .best d small) e (does .segment) (omega arith) }
 
-    pub row-more : (g from : ℕ) (ys : List (Option V)) → g ≡ grains-of grain (e .delay .0) → g ≤ top → from ≡ slot n top l (e .to) 0 → Improved alg from (at + g) (top + 1 - g) (e .value) xs ys → Rowing net alg grain top (best-of n top before l) at v (c + 1) before ys
+    pub row-more : (g from : ℕ) (ys : List (Option V)) → g ≡ grains-of grain (e .delay .0) → g ≤ top → from ≡ slot n top l (e .to) 0 → Improved alg from (at + g) (top + 1 - g) (e .value) xs ys → RowTo net alg grain top (best-of n top before l) at v (c + 1) before ys
     row-more g from ys g-is within from-is imp = record {
       kept = λ i h. imp .kept i (omega arith) ∙ inv .kept i h;
       best = λ d small. ⊎-elim
@@ -56,7 +56,7 @@ module _ {V : Type 0} (net : Net) (alg : Algebra V) (lawful : Laws alg) (grain n
           (cases-lt d g);
     }
 
-pub row-start : {V : Type 0} (net : Net) (alg : Algebra V) (grain top at v : ℕ) (row : ℕ → ℕ → Option V) (first before : List (Option V)) → Blank at (top + 1) first before → Rowing net alg grain top row at v 0 before before
+pub row-start : {V : Type 0} (net : Net) (alg : Algebra V) (grain top at v : ℕ) (row : ℕ → ℕ → Option V) (first before : List (Option V)) → Blank at (top + 1) first before → RowTo net alg grain top row at v 0 before before
 row-start net alg grain top at v row first before b = record {
   kept = λ i h. refl;
   best = λ d small. subst (BestOf alg (CandidateTo net alg grain row d v 0)) (sym (b .empty d (omega arith))) (λ y k. omega (arith, k .1));
@@ -68,7 +68,7 @@ segment-below net alg v code h (inr s) = s .high
 
 module _ {V : Type 0} (net : Net) (alg : Algebra V) (lawful : Laws alg) (sound : Sound net) (grain n top l at v c : ℕ) (first before xs : List (Option V))
     (at-is : at ≡ slot n top (l + 1) v 0) (nodes : n ≡ net .nodes) (node : v < n) (past : 512 ≤ c) (blank : Blank at (top + 1) first before)
-    (inv : Rowing net alg grain top (best-of n top before l) at v c before xs) where
+    (inv : RowTo net alg grain top (best-of n top before l) at v c before xs) where
   pub row-kept : Kept (slot n top (l + 1) v 0) first xs
   row-kept i h = let k : i < at = omega arith in inv .kept i k ∙ blank .kept i k
 

@@ -13,11 +13,11 @@ use Rattle.engine.specs.Cells.{better-of, merge, Improved, Blank}
 use Rattle.engine.proofs.IndexSplit.{last-or}
 
 -- the first d slots are improved, and those from there on stay
-abbrev pub Improving : {V : Type 0} → Algebra V → ℕ → ℕ → V → ℕ → List (Option V) → List (Option V) → Type 0
-Improving alg from to value d before xs = Improved alg from to d value before xs × ((j : ℕ) → to + d ≤ j → getD xs j None ≡ getD before j None)
+abbrev pub ImprovedTo : {V : Type 0} → Algebra V → ℕ → ℕ → V → ℕ → List (Option V) → List (Option V) → Type 0
+ImprovedTo alg from to value d before xs = Improved alg from to d value before xs × ((j : ℕ) → to + d ≤ j → getD xs j None ≡ getD before j None)
 
-module _ {V : Type 0} (alg : Algebra V) (from to count : ℕ) (value : V) (before xs ys : List (Option V)) (d : ℕ) (apart : from + count ≤ to) (more : d < count) (inv : Improving alg from to value d before xs) where
-  pub improve-step : getD ys (to + d) None ≡ merge alg (getD xs (to + d) None) value (getD xs (from + d) None) → ((j : ℕ) → (j ≡ to + d → ⊥) → getD ys j None ≡ getD xs j None) → Improving alg from to value (d + 1) before ys
+module _ {V : Type 0} (alg : Algebra V) (from to count : ℕ) (value : V) (before xs ys : List (Option V)) (d : ℕ) (apart : from + count ≤ to) (more : d < count) (inv : ImprovedTo alg from to value d before xs) where
+  pub improve-step : getD ys (to + d) None ≡ merge alg (getD xs (to + d) None) value (getD xs (from + d) None) → ((j : ℕ) → (j ≡ to + d → ⊥) → getD ys j None ≡ getD xs j None) → ImprovedTo alg from to value (d + 1) before ys
   improve-step here other = (
     record {
       kept = λ i h. other i (λ e. omega (arith, e, h)) ∙ inv .0 .kept i h;
@@ -31,7 +31,7 @@ module _ {V : Type 0} (alg : Algebra V) (from to count : ℕ) (value : V) (befor
     λ j h. other j (λ e. omega (arith, e, h)) ∙ inv .1 j (omega arith),
   )
 
-pub improve-none : {V : Type 0} (alg : Algebra V) (from to : ℕ) (value : V) (before : List (Option V)) → Improving alg from to value 0 before before
+pub improve-none : {V : Type 0} (alg : Algebra V) (from to : ℕ) (value : V) (before : List (Option V)) → ImprovedTo alg from to value 0 before before
 improve-none alg from to value before = (record { kept = λ i h. refl; taken = λ e h. absurd (omega arith) }, λ j h. refl)
 
 pub improve-keep : {V : Type 0} (alg : Algebra V) (old o : Option V) (value : V) → o ≡ None → old ≡ merge alg old value o

@@ -5,7 +5,6 @@ use mathlib.Core.Logic.{_⊎_, inl, inr, ⊎-elim}
 use Prim.Native.Nat.{ℕ, _+_, _≤_, _<_}
 use native.Mathlib.Omega.{arith}
 use lib.Dec.{T}
-use Rattle.std.proofs.shelf.Tests.{cases-eq}
 use Rattle.std.specs.declared.option.Option.{Option}
 use Rattle.std.specs.declared.option.Option.the-variants.{Some, None}
 use Rattle.netmap.specs.Net.{Net}
@@ -16,6 +15,7 @@ use Rattle.engine.specs.Fronts.{most-grains}
 use Rattle.engine.specs.Chosen.{Chosen, LeadOf, Passed, Whole, Before, lead-of}
 use Rattle.segments.proofs.JoinedValues.{as-good-refl}
 use Rattle.segments.proofs.OptionValues.{some-same, none-some}
+use Rattle.engine.proofs.CellsPassed.{passed-split, passed-more, column-passed, column-covered, all-passed, all-covered, none-passed}
 
 module _ {V : Type 0} (alg : Algebra V) (best : ℕ → ℕ → Option V) where
   -- the same cells under another name
@@ -24,23 +24,16 @@ module _ {V : Type 0} (alg : Algebra V) (best : ℕ → ℕ → Option V) where
   lead-same S R (Some c) f g b = (f (c .entries) (c .grains) (b .0), b .1, λ m e y r. b .2 m e y (g m e r))
 
   module _ (limit d l : ℕ) where
-    split : (m e : ℕ) → Passed limit d (l + 1) m e → Passed limit d l m e ⊎ ((m ≡ l) × (e ≡ d))
-    split m e p = ⊎-elim (λ (h : e < d). inl (p .0, inl h))
-        (λ (h : (e ≡ d) × (m < l + 1)). ⊎-elim (λ (k : m ≡ l). inr (k, h .0)) (λ (k : m ≡ l → ⊥). inl (p .0, inr (h .0, omega (arith, h .1, k)))) (cases-eq m l)) (p .1)
-
-    wider : (m e : ℕ) → Passed limit d l m e → Passed limit d (l + 1) m e
-    wider m e p = (p .0, ⊎-elim (λ h. inl h) (λ h. inr (h .0, omega (arith, h .1))) (p .1))
-
     -- what was passed has fewer grains or entries
     earlier : (m e : ℕ) → Passed limit d l m e → Before e m d l
     earlier m e p = ⊎-elim (λ h. inl h) (λ h. inr (h .0, omega (arith, h .1))) (p .1)
 
     pub lead-none : (o : Option (Choice V)) → best l d ≡ None → LeadOf alg best (Passed limit d l) o → LeadOf alg best (Passed limit d (l + 1)) o
-    lead-none None empty b = λ m e p. ⊎-elim (λ k. b m e k) (λ (k : (m ≡ l) × (e ≡ d)). ap (λ j. best j e) (k .0) ∙ ap (λ j. best l j) (k .1) ∙ empty) (split m e p)
+    lead-none None empty b = λ m e p. ⊎-elim (λ k. b m e k) (λ (k : (m ≡ l) × (e ≡ d)). ap (λ j. best j e) (k .0) ∙ ap (λ j. best l j) (k .1) ∙ empty) (passed-split limit d l m e p)
     lead-none (Some c) empty b = (
-      wider (c .entries) (c .grains) (b .0),
+      passed-more limit d l (c .entries) (c .grains) (b .0),
       b .1,
-      λ m e y p is. ⊎-elim (λ k. b .2 m e y k is) (λ (k : (m ≡ l) × (e ≡ d)). absurd (none-some (best m e) y (ap (λ j. best j e) (k .0) ∙ ap (λ j. best l j) (k .1) ∙ empty) is)) (split m e p),
+      λ m e y p is. ⊎-elim (λ k. b .2 m e y k is) (λ (k : (m ≡ l) × (e ≡ d)). absurd (none-some (best m e) y (ap (λ j. best j e) (k .0) ∙ ap (λ j. best l j) (k .1) ∙ empty) is)) (passed-split limit d l m e p),
     )
 
     module _ (lawful : Laws alg) (x : V) (within : l ≤ limit) (cell : best l d ≡ Some x) where
@@ -60,20 +53,20 @@ module _ {V : Type 0} (alg : Algebra V) (best : ℕ → ℕ → Option V) where
         λ m e y p is. ⊎-elim (λ k. absurd (none-some (best m e) y (b m e k) is))
             (λ (k : (m ≡ l) × (e ≡ d)).
             (subst (AsGood alg x) (sym (here m e y k is)) (as-good-refl alg lawful x), λ t. inr (sym (k .1), omega (arith, k .0))))
-            (split m e p),
+            (passed-split limit d l m e p),
       )
       lead-some (Some c) b = go (alg .as-good (c .value) x) refl
         where
           go : (t : Bool) → alg .as-good (c .value) x ≡ t → LeadOf alg best (Passed limit d (l + 1)) (Some (cond t c next))
           go true g = (
-            wider (c .entries) (c .grains) (b .0),
+            passed-more limit d l (c .entries) (c .grains) (b .0),
             b .1,
             λ m e y p is. ⊎-elim (λ k. b .2 m e y k is)
                 (λ (k : (m ≡ l) × (e ≡ d)). (
                   subst (AsGood alg (c .value)) (sym (here m e y k is)) (subst T (sym g) tt),
                   λ t. subst (λ j. Before (c .grains) (c .entries) j m) (sym (k .1)) (subst (λ j. Before (c .grains) (c .entries) d j) (sym (k .0)) (earlier (c .entries) (c .grains) (b .0))),
                 ))
-                (split m e p),
+                (passed-split limit d l m e p),
           )
           go false g =
               let up : AsGood alg x (c .value) = ⊎-elim (λ h. absurd (subst T g h)) (λ h. h) (lawful .total (c .value) x) in (
@@ -85,22 +78,18 @@ module _ {V : Type 0} (alg : Algebra V) (best : ℕ → ℕ → Option V) where
                     (lawful .transitive x (c .value) y up (o .0), λ t. absurd (subst T g (subst (AsGood alg (c .value)) t (o .0)))))
                     (λ (k : (m ≡ l) × (e ≡ d)).
                     (subst (AsGood alg x) (sym (here m e y k is)) (as-good-refl alg lawful x), λ t. inr (sym (k .1), omega (arith, k .0))))
-                    (split m e p),
+                    (passed-split limit d l m e p),
               )
 
   -- a column is passed
   pub lead-next : (limit d l : ℕ) (o : Option (Choice V)) → limit < l → LeadOf alg best (Passed limit d l) o → LeadOf alg best (Passed limit (d + 1) 0) o
-  lead-next limit d l o past = lead-same (Passed limit d l) (Passed limit (d + 1) 0) o
-      (λ m e p. (p .0, inl (⊎-elim (λ (h : e < d). omega arith) (λ (h : (e ≡ d) × (m < l)). omega (arith, h .0)) (p .1))))
-      (λ m e p. (p .0, ⊎-elim (λ (h : e < d + 1). ⊎-elim (λ (k : e ≡ d). inr (k, omega (arith, p .0, past))) (λ (k : e ≡ d → ⊥). inl (omega (arith, h, k))) (cases-eq e d)) (λ (h : (e ≡ d + 1) × (m < 0)). absurd (omega (arith, h .1))) (p .1)))
+  lead-next limit d l o past = lead-same (Passed limit d l) (Passed limit (d + 1) 0) o (λ m e. column-passed limit d l m e) (λ m e. column-covered limit d l m e past)
 
   pub lead-first : (limit : ℕ) → LeadOf alg best (Passed limit 0 0) None
-  lead-first limit m e p = absurd (⊎-elim (λ (h : e < 0). omega arith) (λ (h : (e ≡ 0) × (m < 0)). omega (arith, h .1)) (p .1))
+  lead-first limit m e p = absurd (none-passed limit m e p)
 
   pub lead-all : (limit top d : ℕ) (o : Option (Choice V)) → d ≡ top + 1 → LeadOf alg best (Passed limit d 0) o → LeadOf alg best (Whole limit top) o
-  lead-all limit top d o past = lead-same (Passed limit d 0) (Whole limit top) o
-      (λ m e p. (p .0, ⊎-elim (λ (h : e < d). omega (arith, h, past)) (λ (h : (e ≡ d) × (m < 0)). absurd (omega (arith, h .1))) (p .1)))
-      (λ m e p. (p .0, inl (omega (arith, p .1, past))))
+  lead-all limit top d o past = lead-same (Passed limit d 0) (Whole limit top) o (λ m e. all-passed limit top d m e past) (λ m e. all-covered limit top d m e past)
 
 -- what the scan gives is the chosen cell
 pub lead-chosen : {V : Type 0} (net : Net) (alg : Algebra V) (o : Order) (best : ℕ → ℕ → ℕ → Option V) (c : Choice V)

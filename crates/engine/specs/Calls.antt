@@ -27,7 +27,7 @@ use Rattle.engine.specs.Quotes.{Quoted, Unserved, KeepsBound}
 abbrev pub room-of : {A B C : Type 0} → List A → List B → List C → Room
 room-of dist spread table = record { dist = length dist; spread = length spread; table = length table }
 
--- a question that is told with the order's index
+-- a question whose denial carries the order's index
 abbrev pub of-one : Order → Question → Bool → Asked
 of-one o question = asks (of-order question (o .index))
 

@@ -55,6 +55,14 @@ slot n top l v d = (l * n + v) * (top + 1) + d
 abbrev pub best-of : {V : Type 0} → ℕ → ℕ → List (Option V) → ℕ → ℕ → ℕ → Option V
 best-of n top table l d v = getD table (slot n top l v d) None
 
+-- a slice of the length has the cells of n nodes, up to top grains and up to limit entries, and the source is a node
+pub record HasCells (n top limit source long : ℕ) : Type 0 where
+  pub nodes : n ≤ 64
+  pub top-high : top ≤ 1000
+  pub limit-high : limit ≤ 10
+  pub node : source < n
+  pub room : (limit + 1) * n * (top + 1) ≤ long
+
 -- the better of what a slot holds and a value; what is held stays at a tie
 abbrev pub better-of : {V : Type 0} → Algebra V → Option V → V → Option V
 better-of alg None y = Some y
@@ -81,10 +89,10 @@ pub record Blank {V : Type 0} (from count : ℕ) (before after : List (Option V)
 
 module _ {V : Type 0} (net : Net) (alg : Algebra V) (grain target n top : ℕ) where
   -- the rows of up to l entries are filled
-  abbrev pub Filled-to : ℕ → List (Option V) → Type 0
-  Filled-to l table = (m : ℕ) → m ≤ l → Row net alg grain target top m (best-of n top table m)
+  abbrev pub FilledTo : ℕ → List (Option V) → Type 0
+  FilledTo l table = (m : ℕ) → m ≤ l → Row net alg grain target top m (best-of n top table m)
 
 -- the rows of l + 1 entries at the nodes below v are filled from those of l entries, and all before them stays
-pub record Levelling {V : Type 0} (net : Net) (alg : Algebra V) (grain n top l v : ℕ) (before xs : List (Option V)) : Type 0 where
+pub record LevelTo {V : Type 0} (net : Net) (alg : Algebra V) (grain n top l v : ℕ) (before xs : List (Option V)) : Type 0 where
   pub kept : Kept (slot n top (l + 1) 0 0) before xs
   pub cells : (target : ℕ) → Row net alg grain target top l (best-of n top before l) → (d u : ℕ) → d ≤ top → u < v → Cell net alg grain target (l + 1) d u (best-of n top xs (l + 1) d u)

@@ -2,7 +2,6 @@
 use mathlib.Core.Path.{_≡_}
 use mathlib.Core.List.{List, [], _∷_}
 use Prim.Native.Nat.{ℕ}
-use Rattle.std.specs.declared.option.Option.{Option}
 use Rattle.std.specs.declared.result.Result.{Result}
 use Rattle.std.specs.Of.Vec.{vec-items}
 use Rattle.netmap.specs.declared.denial.Denial.{Denial}
@@ -11,7 +10,6 @@ use Rattle.netmap.specs.Changes.{put-reply, after-put, remove-reply, after-remo
 use Rattle.segments.specs.Algebra.{Algebra}
 use Rattle.engine.specs.declared.running.Call.{Call}
 use Rattle.engine.specs.declared.running.Call.the-variants as call
-use Rattle.engine.specs.declared.running.Reply.{Reply}
 use Rattle.engine.specs.declared.running.Reply.the-variants as reply
 use Rattle.segments.specs.declared.figures.Figures.{Figures}
 use Rattle.engine.specs.declared.running.Step.{Step}

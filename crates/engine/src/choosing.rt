@@ -1,10 +1,12 @@
 // The choice of the cell at the source from which the list is rebuilt.
 ghost use mathlib.Core.Path.{_≡_};
-ghost use Prim.Native.Nat.{_+_, _*_, _<_, _≤_};
+ghost use Prim.Native.Nat.{_+_, _≤_};
 ghost use lib.ListN.{length};
 ghost use Rattle.segments.specs.Algebra.{algebra};
-ghost use Rattle.engine.specs.Cells.{best-of};
+ghost use Rattle.engine.specs.Cells.{best-of, HasCells};
 ghost use Rattle.engine.specs.Chosen.{LeadOf, Passed, Whole, lead-of};
+use crate::search::SourceCells;
+use crate::search::SourceCellsClone;
 use crate::table::read_cell;
 use tariff::Tariff;
 
@@ -30,26 +32,18 @@ fn lead<V: Tariff>(best: Option<Choice<V>>, next: Choice<V>) -> Choice<V>
 
 // Goes on with the cells of d grains at the source.
 fn choose_at<V: Tariff>(
-    table: &[Option<V>],
-    n: usize,
-    top: usize,
-    limit: usize,
-    source: usize,
+    cells: SourceCells<V>,
     d: usize,
     best: Option<Choice<V>>,
 ) -> Option<Choice<V>>
-    requires nodes { ⌜ n ≤ 64 ⌝ }
-    requires top { ⌜ top ≤ 1000 ⌝ }
-    requires labels { ⌜ limit ≤ 10 ⌝ }
-    requires node { ⌜ source < n ⌝ }
-    requires grains { ⌜ d ≤ top ⌝ }
-    requires room { ⌜ (limit + 1) * n * (top + 1) ≤ length (now table) ⌝ }
-    requires lead { ⌜ LeadOf (algebra (V·Ranking .good) (V·Tariff .joining)) (λ m e. best-of n top (now table) m e source) (Passed limit d 0) best ⌝ }
-    ensures { λ r. ⌜ LeadOf (algebra (V·Ranking .good) (V·Tariff .joining)) (λ m e. best-of n top (now (table .entry)) m e source) (Passed limit (d + 1) 0) r ⌝ }
+    requires cells { ⌜ HasCells (cells .n) (cells .top) (cells .limit) (cells .source) (length (now (cells .table))) ⌝ }
+    requires grains { ⌜ d ≤ cells .top ⌝ }
+    requires lead { ⌜ LeadOf (algebra (V·Ranking .good) (V·Tariff .joining)) (λ m e. best-of (cells .n) (cells .top) (now (cells .table)) m e (cells .source)) (Passed (cells .limit) d 0) best ⌝ }
+    ensures { λ r. ⌜ LeadOf (algebra (V·Ranking .good) (V·Tariff .joining)) (λ m e. best-of (cells .entry .n) (cells .entry .top) (now (cells .entry .table)) m e (cells .entry .source)) (Passed (cells .entry .limit) (d + 1) 0) r ⌝ }
 {
     let mut first = best;
-    for l in 0..limit + 1 {
-        if let Some(value) = read_cell(table, n, top, l, source, d) {
+    for l in 0..cells.limit + 1 {
+        if let Some(value) = read_cell(cells.table, cells.n, cells.top, l, cells.source, d) {
             first = Some(lead(
                 first,
                 Choice {
@@ -64,23 +58,13 @@ fn choose_at<V: Tariff>(
 }
 
 // The cell at the source of the best value, then of the fewest grains, then of the fewest entries.
-pub(crate) fn choose<V: Tariff>(
-    table: &[Option<V>],
-    n: usize,
-    top: usize,
-    limit: usize,
-    source: usize,
-) -> Option<Choice<V>>
-    requires nodes { ⌜ n ≤ 64 ⌝ }
-    requires top { ⌜ top ≤ 1000 ⌝ }
-    requires labels { ⌜ limit ≤ 10 ⌝ }
-    requires node { ⌜ source < n ⌝ }
-    requires room { ⌜ (limit + 1) * n * (top + 1) ≤ length (now table) ⌝ }
-    ensures { λ r. ⌜ LeadOf (algebra (V·Ranking .good) (V·Tariff .joining)) (λ m e. best-of n top (now (table .entry)) m e source) (Whole limit top) r ⌝ }
+pub(crate) fn choose<V: Tariff>(cells: SourceCells<V>) -> Option<Choice<V>>
+    requires cells { ⌜ HasCells (cells .n) (cells .top) (cells .limit) (cells .source) (length (now (cells .table))) ⌝ }
+    ensures { λ r. ⌜ LeadOf (algebra (V·Ranking .good) (V·Tariff .joining)) (λ m e. best-of (cells .entry .n) (cells .entry .top) (now (cells .entry .table)) m e (cells .entry .source)) (Whole (cells .entry .limit) (cells .entry .top)) r ⌝ }
 {
     let mut best = None;
-    for d in 0..top + 1 {
-        best = choose_at(table, n, top, limit, source, d, best);
+    for d in 0..cells.top + 1 {
+        best = choose_at(cells, d, best);
     }
     best
 }

@@ -5,7 +5,7 @@ ghost use lib.ListN.{length};
 ghost use Rattle.netmap.specs.Net.{Net};
 ghost use Rattle.segments.specs.Algebra.{algebra};
 ghost use Rattle.segments.specs.Spreads.{Routed};
-ghost use Rattle.engine.specs.Cells.{slot, best-of, Kept, Levelling, Filled-to, Row, Cell};
+ghost use Rattle.engine.specs.Cells.{slot, best-of, Kept, LevelTo, FilledTo, Row, Cell};
 use crate::search::Search;
 use crate::search::SearchClone;
 use crate::table::blank;
@@ -62,7 +62,7 @@ fn fill_level<M: Map, V: Tariff>(map: &M, search: Search<V>, l: usize, table: &m
     requires top { ⌜ search .top ≤ 1000 ⌝ }
     requires labels { ⌜ l < 10 ⌝ }
     requires room { ⌜ (l + 2) * (search .n) * (search .top + 1) ≤ length (now table) ⌝ }
-    ensures { λ _. ⌜ Levelling (M·Map .meaning (now (map .entry))) (algebra (V·Ranking .good) (V·Tariff .joining)) (search .entry .grain .0) (search .entry .n) (search .entry .top) l (search .entry .n) (now (table .entry)) (now (table .exit)) ⌝ }
+    ensures { λ _. ⌜ LevelTo (M·Map .meaning (now (map .entry))) (algebra (V·Ranking .good) (V·Tariff .joining)) (search .entry .grain .0) (search .entry .n) (search .entry .top) l (search .entry .n) (now (table .entry)) (now (table .exit)) ⌝ }
 {
     for v in 0..search.n {
         fill_row(map, search, l, v, table);
@@ -96,7 +96,7 @@ pub(crate) fn fill<M: Map, V: Tariff>(
     requires labels { ⌜ limit ≤ 10 ⌝ }
     requires node { ⌜ target < search .n ⌝ }
     requires room { ⌜ (limit + 1) * (search .n) * (search .top + 1) ≤ length (now table) ⌝ }
-    ensures { λ _. ⌜ Filled-to (M·Map .meaning (now (map .entry))) (algebra (V·Ranking .good) (V·Tariff .joining)) (search .entry .grain .0) target (search .entry .n) (search .entry .top) limit (now (table .exit)) ⌝ }
+    ensures { λ _. ⌜ FilledTo (M·Map .meaning (now (map .entry))) (algebra (V·Ranking .good) (V·Tariff .joining)) (search .entry .grain .0) target (search .entry .n) (search .entry .top) limit (now (table .exit)) ⌝ }
 {
     fill_first(search.n, search.top, target, table);
     for l in 0..limit {

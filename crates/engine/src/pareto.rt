@@ -1,10 +1,10 @@
 // The Pareto front of grains and value, over all lists within an order.
 ghost use mathlib.Core.Path.{_≡_};
-ghost use Prim.Native.Nat.{_+_, _*_, _<_, _≤_};
+ghost use Prim.Native.Nat.{_+_, _≤_};
 ghost use lib.ListN.{length};
 ghost use Rattle.segments.specs.Algebra.{algebra};
 ghost use Rattle.engine.specs.Calls.{room-of, working, Untouched, FrontCall};
-ghost use Rattle.engine.specs.Cells.{best-of};
+ghost use Rattle.engine.specs.Cells.{best-of, HasCells};
 ghost use Rattle.engine.specs.Chosen.{Passed, Whole};
 ghost use Rattle.engine.specs.Fronts.{held as heldCount};
 ghost use Rattle.engine.specs.Offers.{Gathered};
@@ -14,6 +14,8 @@ use crate::checks::most_grains;
 use crate::filling::fill;
 use crate::keeper::offer;
 use crate::search::Search;
+use crate::search::SourceCells;
+use crate::search::SourceCellsClone;
 use crate::table::blank;
 use crate::table::read_cell;
 use netmap::Denial;
@@ -27,52 +29,29 @@ use tariff::Ranking;
 use tariff::Tariff;
 
 // Offers the cells of d grains at the source to the front.
-fn offer_column<V: Ranking>(
-    table: &[Option<V>],
-    n: usize,
-    top: usize,
-    limit: usize,
-    source: usize,
-    d: usize,
-    slots: &mut [Option<V>],
-)
-    requires nodes { ⌜ n ≤ 64 ⌝ }
-    requires top { ⌜ top ≤ 1000 ⌝ }
-    requires labels { ⌜ limit ≤ 10 ⌝ }
-    requires node { ⌜ source < n ⌝ }
-    requires grains { ⌜ d ≤ top ⌝ }
-    requires room { ⌜ (limit + 1) * n * (top + 1) ≤ length (now table) ⌝ }
-    requires long { ⌜ length (now slots) ≡ top + 1 ⌝ }
-    requires gathered { ⌜ Gathered (V·Ranking .good) (λ m e. best-of n top (now table) m e source) (Passed limit d 0) (now slots) ⌝ }
-    ensures { λ _. ⌜ Gathered (V·Ranking .good) (λ m e. best-of n top (now (table .entry)) m e source) (Passed limit (d + 1) 0) (now (slots .exit)) ⌝ }
+fn offer_column<V: Ranking>(cells: SourceCells<V>, d: usize, slots: &mut [Option<V>])
+    requires cells { ⌜ HasCells (cells .n) (cells .top) (cells .limit) (cells .source) (length (now (cells .table))) ⌝ }
+    requires grains { ⌜ d ≤ cells .top ⌝ }
+    requires long { ⌜ length (now slots) ≡ cells .top + 1 ⌝ }
+    requires gathered { ⌜ Gathered (V·Ranking .good) (λ m e. best-of (cells .n) (cells .top) (now (cells .table)) m e (cells .source)) (Passed (cells .limit) d 0) (now slots) ⌝ }
+    ensures { λ _. ⌜ Gathered (V·Ranking .good) (λ m e. best-of (cells .entry .n) (cells .entry .top) (now (cells .entry .table)) m e (cells .entry .source)) (Passed (cells .entry .limit) (d + 1) 0) (now (slots .exit)) ⌝ }
 {
-    for l in 0..limit + 1 {
-        if let Some(value) = read_cell(table, n, top, l, source, d) {
+    for l in 0..cells.limit + 1 {
+        if let Some(value) = read_cell(cells.table, cells.n, cells.top, l, cells.source, d) {
             let _ = offer(slots, Grains(d as u32), value);
         }
     }
 }
 
 // Leaves in the slots the front of all cells at the source.
-fn gather<V: Ranking>(
-    table: &[Option<V>],
-    n: usize,
-    top: usize,
-    limit: usize,
-    source: usize,
-    slots: &mut [Option<V>],
-)
-    requires nodes { ⌜ n ≤ 64 ⌝ }
-    requires top { ⌜ top ≤ 1000 ⌝ }
-    requires labels { ⌜ limit ≤ 10 ⌝ }
-    requires node { ⌜ source < n ⌝ }
-    requires room { ⌜ (limit + 1) * n * (top + 1) ≤ length (now table) ⌝ }
-    requires long { ⌜ length (now slots) ≡ top + 1 ⌝ }
-    ensures { λ _. ⌜ Gathered (V·Ranking .good) (λ m e. best-of n top (now (table .entry)) m e source) (Whole limit top) (now (slots .exit)) ⌝ }
+fn gather<V: Ranking>(cells: SourceCells<V>, slots: &mut [Option<V>])
+    requires cells { ⌜ HasCells (cells .n) (cells .top) (cells .limit) (cells .source) (length (now (cells .table))) ⌝ }
+    requires long { ⌜ length (now slots) ≡ cells .top + 1 ⌝ }
+    ensures { λ _. ⌜ Gathered (V·Ranking .good) (λ m e. best-of (cells .entry .n) (cells .entry .top) (now (cells .entry .table)) m e (cells .entry .source)) (Whole (cells .entry .limit) (cells .entry .top)) (now (slots .exit)) ⌝ }
 {
-    blank(slots, 0, top + 1);
-    for d in 0..top + 1 {
-        offer_column(table, n, top, limit, source, d, slots);
+    blank(slots, 0, cells.top + 1);
+    for d in 0..cells.top + 1 {
+        offer_column(cells, d, slots);
     }
 }
 
@@ -124,6 +103,13 @@ pub fn front<M: Map, V: Tariff>(
     };
     fill(map, search, limit, order.target as usize, table);
     let part = &mut slots[0..top + 1];
-    gather(table, n, top, limit, order.source as usize, part);
+    let cells = SourceCells {
+        table,
+        n,
+        top,
+        limit,
+        source: order.source as usize,
+    };
+    gather(cells, part);
     Ok(count_held(part))
 }

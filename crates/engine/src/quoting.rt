@@ -13,6 +13,8 @@ use crate::choosing::choose;
 use crate::filling::fill;
 use crate::rebuilding::rebuild;
 use crate::search::Search;
+use crate::search::SearchClone;
+use crate::search::SourceCells;
 use netmap::Denial;
 use netmap::Map;
 use netmap::Microseconds;
@@ -47,7 +49,14 @@ fn answer<M: Map, V: Tariff>(
     let limit = order.limit.0 as usize;
     let source = order.source as usize;
     fill(map, search, limit, order.target as usize, table);
-    match choose(table, search.n, search.top, limit, source) {
+    let cells = SourceCells {
+        table,
+        n: search.n,
+        top: search.top,
+        limit,
+        source,
+    };
+    match choose(cells) {
         None => Err(Denial::of_order(Question::AnyList, order.index)),
         Some(choice) => {
             let delay = rebuild(map, search, table, source, choice, list);

@@ -5,7 +5,7 @@ ghost use lib.ListN.{length};
 ghost use Rattle.std.specs.declared.option.Option.the-variants.{Some};
 ghost use Rattle.segments.specs.Algebra.{algebra};
 ghost use Rattle.segments.specs.Spreads.{Routed};
-ghost use Rattle.engine.specs.Cells.{best-of, Filled-to};
+ghost use Rattle.engine.specs.Cells.{best-of, FilledTo};
 ghost use Rattle.engine.specs.Rebuilds.{Attains, TriedCode, FoundAt, Written};
 use crate::choosing::Choice;
 use crate::choosing::ChoiceClone;
@@ -125,7 +125,7 @@ pub(crate) fn rebuild<M: Map, V: Tariff>(
     requires few { ⌜ choice .grains ≤ search .top ⌝ }
     requires room { ⌜ (choice .entries + 1) * (search .n) * (search .top + 1) ≤ length (now table) ⌝ }
     requires space { ⌜ choice .entries ≤ length (now list) ⌝ }
-    requires filled { ⌜ ((target : ℕ) × Filled-to (M·Map .meaning (now map)) (algebra (V·Ranking .good) (V·Tariff .joining)) (search .grain .0) target (search .n) (search .top) (choice .entries) (now table)) ⌝ }
+    requires filled { ⌜ ((target : ℕ) × FilledTo (M·Map .meaning (now map)) (algebra (V·Ranking .good) (V·Tariff .joining)) (search .grain .0) target (search .n) (search .top) (choice .entries) (now table)) ⌝ }
     requires cell { ⌜ best-of (search .n) (search .top) (now table) (choice .entries) (choice .grains) source ≡ Some (choice .value) ⌝ }
     ensures { λ r. ⌜ Written (M·Map .meaning (now (map .entry))) (algebra (V·Ranking .good) (V·Tariff .joining)) (search .entry .grain .0) (choice .value) (best-of (search .entry .n) (search .entry .top) (now (table .entry))) (choice .grains) source (choice .entries) r (now (list .entry)) (now (list .exit)) ⌝ }
 {

@@ -11,3 +11,13 @@ pub(crate) struct Search<'a, V> {
     pub grain: Microseconds,
     pub top: usize,
 }
+
+// The table for n nodes, up to top grains and up to limit entries, to be read at the source.
+#[derive(Clone, Copy)]
+pub(crate) struct SourceCells<'a, V> {
+    pub table: &'a [Option<V>],
+    pub n: usize,
+    pub top: usize,
+    pub limit: usize,
+    pub source: usize,
+}

@@ -6,18 +6,14 @@ use Rattle.engine.proofs.SourceScanned.{lead-first, lead-all}
 use Rattle.engine.proofs.choosing.choose.Needs as need
 
 pub loop-d-holds : need.loop-d-holds
-loop-d-holds g c = lead-first (algebra (g .V·Ranking .good) (g .V·Tariff .joining)) (λ m e. best-of (c .args .n) (c .args .top) (c .args .table .now) m e (c .args .source)) (c .args .limit)
+loop-d-holds g c = lead-first (algebra (g .V·Ranking .good) (g .V·Tariff .joining)) (λ m e. best-of (c .args .cells .n) (c .args .cells .top) (c .args .cells .table .now) m e (c .args .cells .source)) (c .args .cells .limit)
 
 pub choose-at-best-requires : need.choose-at-best-requires
 choose-at-best-requires g c κs = record {
-  nodes = c .pre .nodes;
-  top = c .pre .top;
-  labels = c .pre .labels;
-  node = c .pre .node;
+  cells = c .pre .cells;
   grains = omega (arith, c .loop-d-test .taken);
-  room = c .pre .room;
   lead = c .loop-d .inv;
 }
 
 pub returns : need.returns
-returns g c = lead-all (algebra (g .V·Ranking .good) (g .V·Tariff .joining)) (λ m e. best-of (c .args .n) (c .args .top) (c .args .table .now) m e (c .args .source)) (c .args .limit) (c .args .top) (c .loop-d .d) (c .loop-d .best) (omega (arith, c .loop-d-test .left, c .loop-d .kept .d-end)) (c .loop-d .inv)
+returns g c = lead-all (algebra (g .V·Ranking .good) (g .V·Tariff .joining)) (λ m e. best-of (c .args .cells .n) (c .args .cells .top) (c .args .cells .table .now) m e (c .args .cells .source)) (c .args .cells .limit) (c .args .cells .top) (c .loop-d .d) (c .loop-d .best) (omega (arith, c .loop-d-test .left, c .loop-d .kept .d-end)) (c .loop-d .inv)

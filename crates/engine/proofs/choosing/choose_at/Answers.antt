@@ -13,19 +13,19 @@ use Rattle.engine.proofs.choosing.choose_at.Needs.{in-Some, in-rest}
 
 pub read-cell-requires : need.read-cell-requires
 read-cell-requires g c κs = record {
-  nodes = c .pre .nodes;
-  top = c .pre .top;
-  labels = omega (arith, c .loop-l-test .taken, c .pre .labels);
-  node = c .pre .node;
+  nodes = c .pre .cells .nodes;
+  top = c .pre .cells .top-high;
+  labels = omega (arith, c .loop-l-test .taken, c .pre .cells .limit-high);
+  node = c .pre .cells .node;
   grains = c .pre .grains;
-  room = room-slot (c .args .n) (c .args .top) (c .loop-l .l) (c .args .source) (c .args .d) (c .args .limit) (length (c .args .table .now)) (omega (arith, c .loop-l-test .taken)) (c .pre .node) (c .pre .grains) (c .pre .room);
+  room = room-slot (c .args .cells .n) (c .args .cells .top) (c .loop-l .l) (c .args .cells .source) (c .args .d) (c .args .cells .limit) (length (c .args .cells .table .now)) (omega (arith, c .loop-l-test .taken)) (c .pre .cells .node) (c .pre .grains) (c .pre .cells .room);
 }
 
 pub loop-l-again : need.loop-l-again
 loop-l-again g c =
     let alg = algebra (g .V·Ranking .good) (g .V·Tariff .joining) in
-    let best : ℕ → ℕ → _ = λ m e. best-of (c .args .n) (c .args .top) (c .args .table .now) m e (c .args .source) in
-    let limit = c .args .limit in
+    let best : ℕ → ℕ → _ = λ m e. best-of (c .args .cells .n) (c .args .cells .top) (c .args .cells .table .now) m e (c .args .cells .source) in
+    let limit = c .args .cells .limit in
     let d = c .args .d in
     let l = c .loop-l .l in
     elim (c .match-read-cell .came) [
@@ -38,4 +38,4 @@ loop-l-again g c =
     ]
 
 pub returns : need.returns
-returns g c = lead-next (algebra (g .V·Ranking .good) (g .V·Tariff .joining)) (λ m e. best-of (c .args .n) (c .args .top) (c .args .table .now) m e (c .args .source)) (c .args .limit) (c .args .d) (c .loop-l .l) (c .loop-l .first) (omega (arith, c .loop-l-test .left)) (c .loop-l .inv)
+returns g c = lead-next (algebra (g .V·Ranking .good) (g .V·Tariff .joining)) (λ m e. best-of (c .args .cells .n) (c .args .cells .top) (c .args .cells .table .now) m e (c .args .cells .source)) (c .args .cells .limit) (c .args .d) (c .loop-l .l) (c .loop-l .first) (omega (arith, c .loop-l-test .left)) (c .loop-l .inv)

@@ -2,7 +2,7 @@ use mathlib.Core.Path.{_≡_, subst}
 use Prim.Native.Nat.{_+_, _-_}
 use native.Mathlib.Omega.{arith}
 use Rattle.segments.specs.Algebra.{algebra}
-use Rattle.engine.specs.Cells.{Levelling}
+use Rattle.engine.specs.Cells.{LevelTo}
 use Rattle.engine.proofs.CellPlaces.{slot-end}
 use Rattle.engine.proofs.LevelsFilled.{level-start, level-step}
 use Rattle.engine.proofs.filling.fill_level.Needs as need
@@ -26,4 +26,4 @@ loop-v-again g c = level-step (g .M·Map .meaning (c .args .map .now)) (algebra 
 pub returns : need.returns
 returns g c =
     let e : c .loop-v .v ≡ c .args .search .n = omega (arith, c .loop-v-test .left, c .loop-v .kept .v-end) in
-    subst (λ v. Levelling (g .M·Map .meaning (c .args .map .now)) (algebra (g .V·Ranking .good) (g .V·Tariff .joining)) (c .args .search .grain .0) (c .args .search .n) (c .args .search .top) (c .args .l) v (c .args .table .now) (c .loop-v .table)) e (c .loop-v .inv)
+    subst (λ v. LevelTo (g .M·Map .meaning (c .args .map .now)) (algebra (g .V·Ranking .good) (g .V·Tariff .joining)) (c .args .search .grain .0) (c .args .search .n) (c .args .search .top) (c .args .l) v (c .args .table .now) (c .loop-v .table)) e (c .loop-v .inv)

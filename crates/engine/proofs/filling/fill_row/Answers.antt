@@ -5,7 +5,7 @@ use Rattle.segments.specs.Algebra.{algebra, laws}
 use Rattle.engine.specs.Cells.{best-of}
 use Rattle.engine.proofs.LegsBounded.{leg-at}
 use Rattle.engine.proofs.CellPlaces.{slot-before}
-use Rattle.engine.proofs.RowFilled.{Rowing, row-start, row-none, row-far, row-more, row-kept, row-cells}
+use Rattle.engine.proofs.RowFilled.{RowTo, row-start, row-none, row-far, row-more, row-kept, row-cells}
 use Rattle.engine.proofs.filling.fill_row.Needs as need
 use Rattle.engine.proofs.filling.fill_row.Needs.{in-Some·then-g-search, in-Some·else-g-search, in-rest}
 
@@ -61,13 +61,13 @@ loop-code-again g c =
     let row = best-of n top before l in
     elim (c .match-entry .came) [
       | in-Some·then-g-search w ↦
-          subst (Rowing net alg grain top row at v (k + 1) before) (sym (w .table-is))
+          subst (RowTo net alg grain top row at v (k + 1) before) (sym (w .table-is))
           (row-more net alg lawful grain n top l at v k before xs (c .place-row .ensures) (c .pre .routed .measured .nodes) (c .loop-code .inv) (w .in-Some .leg) (at-leg (w .in-Some .leg) node (w .in-Some .ensures tt)) (w .round-up-g .result .0) (w .place .result) (w .improve .last .table) (w .round-up-g .ensures) (w .if-g-search .taken) (w .place .ensures) (w .improve .ensures))
       | in-Some·else-g-search w ↦
-          subst (Rowing net alg grain top row at v (k + 1) before) (sym (w .table-is))
+          subst (RowTo net alg grain top row at v (k + 1) before) (sym (w .table-is))
           (row-far net alg lawful grain n top l at v k before xs (c .place-row .ensures) (c .pre .routed .measured .nodes) (c .loop-code .inv) (w .in-Some .leg) (at-leg (w .in-Some .leg) node (w .in-Some .ensures tt)) (omega (arith, w .round-up-g .ensures, w .if-g-search .left)))
       | in-rest w ↦
-          subst (Rowing net alg grain top row at v (k + 1) before) (sym (w .table-is))
+          subst (RowTo net alg grain top row at v (k + 1) before) (sym (w .table-is))
           (row-none net alg lawful grain n top l at v k before xs (c .place-row .ensures) (c .pre .routed .measured .nodes) (c .loop-code .inv) (w .in-rest .ensures tt))
     ]
 

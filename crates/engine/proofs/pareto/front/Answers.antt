@@ -83,11 +83,13 @@ gather-requires g c κs =
     let is = sym (c .nodes-n .ensures) in
     let top = sym (c .most-grains-top .ensures) in
     record {
-      nodes = omega (arith, c .nodes-n .ensures, g .M·Map .sound (c .args .map .now) .nodes-high);
-      top = subst (λ k. k ≤ 1000) top (a .top);
-      labels = a .limit-high;
-      node = subst (λ k. o .source < k) is (a .source);
-      room = subst (λ k. (o .limit .0 + 1) * c .nodes-n .result * (c .most-grains-top .result + 1) ≤ k) (sym (c .fill .kept .table)) (subst (λ t. (o .limit .0 + 1) * c .nodes-n .result * (t + 1) ≤ length (c .args .table .now)) top (subst (λ k. (o .limit .0 + 1) * k * (most-grains o + 1) ≤ length (c .args .table .now)) is (a .table)));
+      cells = record {
+        nodes = omega (arith, c .nodes-n .ensures, g .M·Map .sound (c .args .map .now) .nodes-high);
+        top-high = subst (λ k. k ≤ 1000) top (a .top);
+        limit-high = a .limit-high;
+        node = subst (λ k. o .source < k) is (a .source);
+        room = subst (λ k. (o .limit .0 + 1) * c .nodes-n .result * (c .most-grains-top .result + 1) ≤ k) (sym (c .fill .kept .table)) (subst (λ t. (o .limit .0 + 1) * c .nodes-n .result * (t + 1) ≤ length (c .args .table .now)) top (subst (λ k. (o .limit .0 + 1) * k * (most-grains o + 1) ≤ length (c .args .table .now)) is (a .table)));
+      };
       long = first-long (c .most-grains-top .result + 1) (c .args .slots .now) (c .if-slots-top .left);
     }
 

@@ -4,4 +4,4 @@ use Rattle.engine.specs.Offers.{Gathered}
 use Rattle.engine.proofs.pareto.offer_column.Given as given
 
 abbrev pub Inv-loop-l : given.InvT-loop-l
-Inv-loop-l g l = Gathered (g .V·Ranking .good) (λ m e. best-of (l .n) (l .top) (l .table) m e (l .source)) (Passed (l .limit) (l .d) (l .l)) (l .slots)
+Inv-loop-l g l = Gathered (g .V·Ranking .good) (λ m e. best-of (l .cells .n) (l .cells .top) (l .cells .table .now) m e (l .cells .source)) (Passed (l .cells .limit) (l .d) (l .l)) (l .slots)

@@ -1,16 +1,11 @@
-use Prim.Native.Nat.{ℕ, _+_, _-_, _*_, _≤_}
+use Prim.Native.Nat.{_+_, _-_, _*_, _≤_}
 use native.Mathlib.Nat.{mul-le-mul-right}
 use native.Mathlib.Omega.{arith}
-use borrow.Author.Needs.{needs}
-use mir.Val.{Fits}
-use mir.Syntax.{w32}
 use Rattle.segments.specs.Algebra.{algebra, laws}
+use Rattle.segments.proofs.NumbersFit.{fits-grains}
 use Rattle.engine.specs.Cells.{best-of}
 use Rattle.engine.proofs.ListRebuilt.{list-start, list-some, list-step, list-end-of}
 use Rattle.engine.proofs.rebuilding.rebuild.Needs as need
-
-sum-fits : (a b : ℕ) → a ≤ 63000000 → b ≤ 6300000 → Fits w32 (a + b)
-sum-fits a b h k = search needs
 
 pub loop-i-holds : need.loop-i-holds
 loop-i-holds g c =
@@ -32,7 +27,7 @@ seek-f-requires g c κs = record {
 }
 
 pub add-delay : need.add-delay
-add-delay g c = sum-fits (c .loop-i .delay) (c .seek-f .result .leg .delay .0) (omega (arith, c .loop-i .inv .bound, c .loop-i-test .taken, c .pre .labels)) (c .seek-f .ensures .delay)
+add-delay g c = fits-grains (c .loop-i .delay) (c .seek-f .result .leg .delay .0) (omega (arith, c .loop-i .inv .bound, c .loop-i-test .taken, c .pre .labels)) (c .seek-f .ensures .delay)
 
 pub loop-i-again : need.loop-i-again
 loop-i-again g c =

@@ -5,7 +5,7 @@ use lib.ListN.{length, getD}
 use Rattle.std.proofs.shelf.Lists.{getD-read}
 use Rattle.std.specs.declared.option.Option.the-variants.{None}
 use Rattle.segments.specs.Algebra.{algebra}
-use Rattle.engine.proofs.SlotsImproved.{Improving, improve-step, improve-none, improve-keep, improve-take}
+use Rattle.engine.proofs.SlotsImproved.{ImprovedTo, improve-step, improve-none, improve-keep, improve-take}
 use Rattle.engine.proofs.table.improve.Needs as need
 use Rattle.engine.proofs.table.improve.Needs.{in-Some, in-rest}
 
@@ -26,11 +26,11 @@ loop-d-again g c =
     let read : getD xs (from + d) None ≡ c .index-table-from .result = sym (getD-read xs (from + d) (c .index-table-from .result) within (c .index-table-from .is) None) in
     elim (c .match-held .came) [
       | in-Some w ↦
-          subst (Improving alg from to value (d + 1) before) (sym (w .table-is))
+          subst (ImprovedTo alg from to value (d + 1) before) (sym (w .table-is))
           (improve-step alg from to count value before xs (w .put .last .slots) d (c .pre .apart) (c .loop-d-test .taken) (c .loop-d .inv)
           (w .put .ensures .here ∙ improve-take alg (getD xs (to + d) None) (getD xs (from + d) None) value (w .in-Some .x) (w .join .result) (read ∙ w .in-Some .is) (w .join .ensures)) (w .put .ensures .other))
       | in-rest w ↦
-          subst (Improving alg from to value (d + 1) before) (sym (w .table-is))
+          subst (ImprovedTo alg from to value (d + 1) before) (sym (w .table-is))
           (improve-step alg from to count value before xs xs d (c .pre .apart) (c .loop-d-test .taken) (c .loop-d .inv)
           (improve-keep alg (getD xs (to + d) None) (getD xs (from + d) None) value (read ∙ w .in-rest .is)) (λ j h. refl))
     ]
