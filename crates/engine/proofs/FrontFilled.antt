@@ -5,7 +5,7 @@ use mathlib.Core.List.{List, [], _∷_, _++_}
 use Prim.Native.Nat.{ℕ, _+_, _-_, _≤_, _<_}
 use native.Mathlib.Omega.{arith}
 use lib.Dec.{leb}
-use lib.ListN.{length, take, drop}
+use lib.ListN.{length, take, drop, length-append, length-drop}
 use Rattle.std.proofs.shelf.Tests.{le-leb, lt-leb}
 use Rattle.std.proofs.shelf.Lists.{take-at, drop-at, length-take-le}
 use Rattle.std.specs.declared.option.Option.{Option}
@@ -58,14 +58,15 @@ module _ {V : Type 0} (net : Net) (alg : Algebra V) (lawful : Laws alg) (sound :
 pub first-long : {V : Type 0} (n : ℕ) (xs : List (Option V)) → n ≤ length xs → length (take (n - 0) xs) ≡ n
 first-long n xs h = let same : n - 0 ≡ n = omega arith in ap (λ k. length (take k xs)) same ∙ length-take-le n xs h
 
-pub front-filled : {V : Type 0} (net : Net) (alg : Algebra V) (o : Order) (before part : List (Option V)) (cut count : ℕ) → cut ≡ most-grains o + 1 → length part ≡ most-grains o + 1 → Front (alg .as-good) (Had net alg o) part → count ≡ held part
+pub front-filled : {V : Type 0} (net : Net) (alg : Algebra V) (o : Order) (before part : List (Option V)) (cut count : ℕ) → cut ≡ most-grains o + 1 → cut ≤ length before → length part ≡ most-grains o + 1 → Front (alg .as-good) (Had net alg o) part → count ≡ held part
     → Filled net alg o before (part ++ drop cut before) (Ok count)
-front-filled net alg o before part cut count cut-is long front count-is =
+front-filled net alg o before part cut count cut-is fits long front count-is =
     let first : take (most-grains o + 1) (part ++ drop cut before) ≡ part = take-at part (drop cut before) (most-grains o + 1) long in
     record {
       front = subst (Front (alg .as-good) (Had net alg o)) (sym first) front;
       count = ap Ok (count-is ∙ ap held (sym first));
       rest = drop-at part (drop cut before) (most-grains o + 1) long ∙ ap (λ j. drop j before) cut-is;
+      long = length-append part (drop cut before) ∙ simp length-drop (omega (arith, long, cut-is, fits));
     }
 
 module _ {V : Type 0} (net : Net) (alg : Algebra V) (o : Order) (room : Room) (before after : List (Option V)) (r : Result ℕ Denial) where
@@ -89,7 +90,7 @@ front-returned net alg lawful sound o room n top table before part count none to
     let all : length part ≡ most-grains o + 1 = long ∙ first-long (top + 1) before space ∙ ap (λ t. t + 1) top-is in
     let cut : top + 1 - 0 ≡ most-grains o + 1 = omega (arith, top-is) in
     front-call net alg o room before (part ++ drop (top + 1 - 0) before) (Ok count) none (subst (λ t. t + 1 ≤ length before) top-is space)
-    (front-filled net alg o before part (top + 1 - 0) count cut all had count-is)
+    (front-filled net alg o before part (top + 1 - 0) count cut (omega (arith, space)) all had count-is)
 
 pub granted-only : {A X : Type 0} (a : A) (d : Denial) → _≡_ {A = Result A Denial} (Ok a) (Err d) → X
 granted-only a d e = let z : _≡_ {A = ℕ} 0 1 = cc in absurd (omega arith)

@@ -31,11 +31,11 @@ front-unique {V} good P s t long f g = same-lists s t long (λ k d h. getD-defau
     slots k None e None q = e ∙ sym q
 
 module _ {V : Type 0} (alg : Algebra V) where
-  by-denial : (net : Net) (o : Order) (d : Option Denial) (before a b : List (Option V)) (r s : Result ℕ Denial) → length a ≡ length before → length b ≡ length before → FrontBy net alg o d before a r → FrontBy net alg o d before b s → (a ≡ b) × (r ≡ s)
-  by-denial net o (Some d) before a b r s la lb p q = (p .1 ∙ sym (q .1), p .0 ∙ sym (q .0))
-  by-denial net o None before a b r s la lb p q =
+  by-denial : (net : Net) (o : Order) (d : Option Denial) (before a b : List (Option V)) (r s : Result ℕ Denial) → FrontBy net alg o d before a r → FrontBy net alg o d before b s → (a ≡ b) × (r ≡ s)
+  by-denial net o (Some d) before a b r s p q = (p .1 ∙ sym (q .1), p .0 ∙ sym (q .0))
+  by-denial net o None before a b r s p q =
       let n = most-grains o + 1 in
-      let long : length (take n a) ≡ length (take n b) = length-take n a ∙ ap (min n) (la ∙ sym lb) ∙ sym (length-take n b) in
+      let long : length (take n a) ≡ length (take n b) = length-take n a ∙ ap (min n) (p .long ∙ sym (q .long)) ∙ sym (length-take n b) in
       let first : take n a ≡ take n b = front-unique (alg .as-good) (Had net alg o) (take n a) (take n b) long (p .front) (q .front) in
       (sym (take-append-drop n a) ∙ ap (λ l. l ++ drop n a) first ∙ ap (λ l. take n b ++ l) (p .rest ∙ sym (q .rest)) ∙ take-append-drop n b, p .count ∙ ap (λ l. Ok (held l)) first ∙ sym (q .count))
 

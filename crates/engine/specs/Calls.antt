@@ -95,6 +95,7 @@ module _ {V : Type 0} (net : Net) (alg : Algebra V) (o : Order) where
     pub front : Front (alg .as-good) (Had net alg o) (take (most-grains o + 1) after)
     pub count : r ≡ Ok (held (take (most-grains o + 1) after))
     pub rest : drop (most-grains o + 1) after ≡ drop (most-grains o + 1) before
+    pub long : length after ≡ length before
 
   abbrev pub FrontBy : Option Denial → List (Option V) → List (Option V) → Result ℕ Denial → Type 0
   FrontBy (Some d) before after r = (r ≡ Err d) × (after ≡ before)

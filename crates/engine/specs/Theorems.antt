@@ -24,9 +24,9 @@ module _ {V : Type 0} (alg : Algebra V) where
   Quotes-determined = (net : Net) (o : Order) (room : Room) (before a b : List ℕ) (r s : Result (Figures V) Denial)
       → QuoteCall net alg o room before a r → QuoteCall net alg o room before b s → (a ≡ b) × (r ≡ s)
 
-  -- one reply, and one content of as many front slots
+  -- one reply, and one content of the front slots
   abbrev pub Fronts-determined : Type 0
-  Fronts-determined = (net : Net) (o : Order) (room : Room) (before a b : List (Option V)) (r s : Result ℕ Denial) → length a ≡ length before → length b ≡ length before
+  Fronts-determined = (net : Net) (o : Order) (room : Room) (before a b : List (Option V)) (r s : Result ℕ Denial)
       → FrontCall net alg o room before a r → FrontCall net alg o room before b s → (a ≡ b) × (r ≡ s)
 
 module _ {V : Type 0} (good : V → V → Bool) where
