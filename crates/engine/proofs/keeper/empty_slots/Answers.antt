@@ -14,8 +14,8 @@ returns g c =
     let old = c .args .slots .now in
     let new = c .blank .last .table in
     let all : (d : ℕ) → getD new d None ≡ None = λ d.
-          ⊎-elim
-          (λ (h : d < length old). let same : d ≡ 0 + d = omega arith in ap (λ x. getD new x None) same ∙ c .blank .ensures .empty d h)
-          (λ (h : length old ≤ d). getD-past new d None (omega (arith, c .blank .kept .table)))
-          (cases-lt d (length old)) in
+    ⊎-elim
+    (λ (h : d < length old). let same : d ≡ 0 + d = omega arith in ap (λ x. getD new x None) same ∙ c .blank .ensures .empty d h)
+    (λ (h : length old ≤ d). getD-past new d None (omega (arith, c .blank .kept .table)))
+    (cases-lt d (length old)) in
     record { empty = all; front = empty-front (g .V·Ranking .good) new all }
