@@ -1,5 +1,5 @@
 -- What the questions of opening, reading and putting show where all are answered yes.
-use Rattle.std.proofs.Common.{◌≡◌, ℕ, ◌<◌, ◌≤◌, true, eqb, ltb, leb, ◌⊎◌, Some, None, Ok, Err, Result, sym, ◌∙◌, subst, ⊎_elim, arith, ltb-true, lt-ltb, ne_eqb, le-leb, leb-true}
+use Rattle.std.proofs.Common.{◌≡◌, ℕ, ◌<◌, ◌≤◌, ltb, leb, Some, None, Ok, Err, Result, sym, ◌∙◌, subst, ⊎_elim, arith, ltb-true, lt-ltb, ne_eqb, le-leb, leb-true}
 use borrow.Author.Tests.{eqb-false, not-true}
 use Rattle.std.proofs.lemmas.List.{get_or_past}
 use Rattle.std.proofs.lemmas.Bool.{and_parts, cases_lt}

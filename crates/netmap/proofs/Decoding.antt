@@ -1,16 +1,16 @@
 -- What bytes say, place by place.
-use Rattle.std.proofs.Common.{◌≡◌, ℕ, ◌+◌, ◌*◌, ◌/◌, ◌%◌, ◌<◌, ◌≤◌, ◌⊎◌, List, ◌++◌, length, get_or, Some, None, Option, sym, refl, ap, ◌∙◌, subst, ⊎_elim, arith, below_none, below_more}
+use Rattle.std.proofs.Common.{◌≡◌, ℕ, ◌/◌, ◌%◌, ◌<◌, ◌≤◌, List, ◌++◌, length, get_or, None, Option, sym, ap, ◌∙◌, subst, ⊎_elim, arith, below_none, below_more}
 use Rattle.std.proofs.lemmas.List.FromFn.{length-map-range_with_len, get_or-map-range_with_len}
 use Rattle.std.proofs.lemmas.List.{same_lists, get_or_past, get_or_default}
 use Rattle.std.proofs.lemmas.Bool.{cases_lt}
 use Rattle.netmap.specs.declared.link.Link.{Link}
 use Rattle.questions.specs.Asking.{first_no}
-use Rattle.netmap.specs.Layout.{two_bytes, encode, image_size, Images}
+use Rattle.netmap.specs.Layout.{two_bytes, image_size, Images}
 use Rattle.netmap.specs.Net.{Net, Sound, places, link_at}
 use Rattle.netmap.specs.Reading.{two_at, link_in, place_of, decode, field_questions}
 use Rattle.netmap.specs.Spans.{AtPlace}
 use Rattle.netmap.proofs.Changes.{InLimits}
-use Rattle.netmap.proofs.Layouts.{LaysOut, header, lays_out_encode}
+use Rattle.netmap.proofs.Layouts.{LaysOut, lays_out_encode}
 use Rattle.netmap.proofs.PlaceBytes.{two_back, place_read, place_back, place_fit}
 use Rattle.netmap.proofs.Soundness.{none_some}
 

@@ -1,13 +1,13 @@
 -- The image of a sound network opens, and as no other network.
-use Rattle.std.proofs.Common.{◌≡◌, ℕ, ◌<◌, ◌≤◌, List, length, None, sym, refl, ap, ◌∙◌, subst, arith}
-use Rattle.netmap.specs.Layout.{encode, image_size, Images}
+use Rattle.std.proofs.Common.{◌≡◌, ℕ, ◌<◌, List, None, sym, refl, ap, ◌∙◌, subst, arith}
+use Rattle.netmap.specs.Layout.{image_size, Images}
 use Rattle.netmap.specs.Net.{Net, Sound, places, link_at}
 use Rattle.netmap.specs.Reading.{two_at, decode, image_denial}
 use Rattle.netmap.specs.Storing.{OpensAs}
 use Rattle.netmap.proofs.Changes.{InLimits}
 use Rattle.netmap.proofs.Decoding.{decode_laid_out}
 use Rattle.netmap.proofs.Examining.{Header, header_granted, image_granted, as_asked}
-use Rattle.netmap.proofs.Layouts.{LaysOut, encode_lays_out, image_lays_out}
+use Rattle.netmap.proofs.Layouts.{LaysOut, image_lays_out}
 use Rattle.netmap.proofs.PlaceBytes.{two_is, place_granted}
 
 nodes_read : (bs : List ℕ) (net : Net) → LaysOut bs net → Sound net → net.nodes ≡ two_at bs 0

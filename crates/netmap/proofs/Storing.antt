@@ -1,9 +1,8 @@
 -- Storing a network, its sizes and then place by place.
-use Rattle.std.proofs.Common.{◌≡◌, ℕ, ◌+◌, ◌-◌, ◌*◌, ◌<◌, ◌≤◌, ◌⊎◌, List, ◌++◌, length, get_or, take, drop, None, Option, sym, refl, ap, ◌∙◌, subst, ⊎_elim, arith, length-drop}
+use Rattle.std.proofs.Common.{◌≡◌, ℕ, ◌+◌, ◌-◌, ◌*◌, ◌<◌, ◌≤◌, List, ◌++◌, length, get_or, take, drop, sym, refl, ap, ◌∙◌, subst, ⊎_elim, arith, length-drop}
 use lib.Seq.{take-append-le}
 use Rattle.std.proofs.lemmas.List.{same_lists, get_or-take, get_or-drop, get_or_default, length-take-le, take-append-drop, take_all, get_or_append_left, get_or-append-add}
 use Rattle.std.proofs.lemmas.Bool.{cases_lt, cases_eq}
-use Rattle.netmap.specs.declared.link.Link.{Link}
 use Rattle.netmap.specs.Layout.{two_bytes, encode, image_size}
 use Rattle.netmap.specs.Net.{Net, Sound, places, link_at}
 use Rattle.netmap.specs.Spans.{Written, AtPlace, PlaceWritten}

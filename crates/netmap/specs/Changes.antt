@@ -1,5 +1,5 @@
 -- Read, put and remove: the questions that they ask of the network, what they reply, and the network that they leave.
-use Rattle.std.specs.Prelude.{ℕ, Bool, not, ◌&&◌, List, [], ◌∷◌, ◌++◌, is_some, Some, None, Option, Result, ◌==◌, nat_le, nat_lt, slice_set}
+use Rattle.std.specs.Prelude.{ℕ, not, ◌&&◌, List, [], ◌∷◌, ◌++◌, is_some, Some, None, Option, Result, ◌==◌, nat_le, nat_lt, slice_set}
 use Rattle.questions.specs.declared.denial.Denial.{Denial}
 use Rattle.questions.specs.declared.denial.Question.TheVariants.{EndsExist, EndsDiffer, WeightPositive, DelayLimit, FigureLimit, PlaceExists, PlaceFilled}
 use Rattle.netmap.specs.declared.link.Link.{Link}

@@ -1,5 +1,5 @@
 -- What opening a map asks of its sizes, and the network that it leaves.
-use Rattle.std.specs.Prelude.{ℕ, Bool, ◌&&◌, List, [], ◌∷◌, take, replicate, None, Option, nat_le}
+use Rattle.std.specs.Prelude.{ℕ, ◌&&◌, List, [], ◌∷◌, take, replicate, None, Option, nat_le}
 use Rattle.questions.specs.declared.denial.Denial.{Denial}
 use Rattle.questions.specs.declared.denial.Question.TheVariants.{NodeCount, PlaceCount}
 use Rattle.netmap.specs.declared.link.Link.{Link}

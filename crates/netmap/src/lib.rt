@@ -1,4 +1,6 @@
 // Maps of a carrier's network: nodes, places, and at each place nothing or one link.
+#![tactic(auto)]
+
 mod checks;
 mod fields;
 pub mod image;

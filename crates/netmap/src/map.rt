@@ -33,7 +33,7 @@ pub trait Map {
 
 // The link at a place, or nothing where the place is empty or there is no such place.
 pub fn held<M: Map>(map: &M, place: usize) -> Option<Link>
-    ensures { result ≡ link_at (meaning map.now) place }
+    ensures { result ≡ link_at (M.meaning map.now) place }
 {
     match map.read(place) {
         Ok(held) => held,

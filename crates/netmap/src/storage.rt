@@ -11,9 +11,9 @@ use questions::{Denial, Question};
 
 // Writes the image of a map at the front of the space, and says how long it is.
 pub fn store<M: Map>(map: &M, space: &mut [u8]) -> Result<usize, Denial>
-    ensures reply { result ≡ reply (store_denial (meaning map.now) (length space.old)) (image_size (placeCount (meaning map.now))) }
-    ensures after { space.new ≡ unless (store_denial (meaning map.now) (length space.old)) (stored (meaning map.now) space.old) space.old }
-    ensures reopens { IfOk result (λ size. OpensAs (take size space.new) (meaning map.now)) }
+    ensures reply { result ≡ reply (store_denial (M.meaning map.now) (length space.old)) (image_size (placeCount (M.meaning map.now))) }
+    ensures after { space.new ≡ unless (store_denial (M.meaning map.now) (length space.old)) (stored (M.meaning map.now) space.old) space.old }
+    ensures reopens { IfOk result (λ size. OpensAs (take size space.new) (M.meaning map.now)) }
 {
     let size = 4 + 12 * map.places();
     if space.len() < size {
@@ -25,9 +25,9 @@ pub fn store<M: Map>(map: &M, space: &mut [u8]) -> Result<usize, Denial>
 
 // Writes through an image that is not open, as a change of a place does.
 fn lay_out<M: Map>(map: &M, space: &mut [u8])
-    requires { image_size (placeCount (meaning map.now)) ≤ length space.old }
-    ensures after { space.new ≡ stored (meaning map.now) space.old }
-    ensures reopens { OpensAs (take (image_size (placeCount (meaning map.now))) space.new) (meaning map.now) }
+    requires { image_size (placeCount (M.meaning map.now)) ≤ length space.old }
+    ensures after { space.new ≡ stored (M.meaning map.now) space.old }
+    ensures reopens { OpensAs (take (image_size (placeCount (M.meaning map.now))) space.new) (M.meaning map.now) }
 {
     let places = map.places();
     let mut image = Image::over(space);

@@ -1,4 +1,4 @@
-use Rattle.std.proofs.Common.{◌≡◌, ◌+◌, ◌∙◌, arith}
+use Rattle.std.proofs.Common.{◌+◌, ◌∙◌, arith}
 use Rattle.netmap.specs.Reading.{ends_at, figures_at, microseconds}
 use Rattle.netmap.proofs.PlaceBytes.{part_at, part_two, part_four}
 use Rattle.netmap.proofs.fields.read_link.Goals as goal
@@ -8,9 +8,9 @@ returns c =
     let bs = c.args.bytes.now in
     let at = ends_at c.args.place in
     let from = figures_at c.args.places c.args.place in
-    let t = c.read-ends-tail.ensures.0 ∙ part_at bs at 2 0 at (omega arith) (omega arith) in
-    let h = c.read-ends-tail.ensures.1 ∙ part_at bs at 2 1 (at + 1) (omega arith) (omega arith) in
-    let w = c.read-figures-weight.ensures.weight ∙ part_two bs from 10 0 from (omega arith) (omega arith) in
-    let d = c.read-figures-weight.ensures.delay ∙ part_four bs from 10 2 (from + 2) (omega arith) (omega arith) in
-    let f = c.read-figures-weight.ensures.figure ∙ part_four bs from 10 6 (from + 6) (omega arith) (omega arith) in
+    let t = c.read_ends-tail.ensures.0 ∙ part_at bs at 2 0 at (omega arith) (omega arith) in
+    let h = c.read_ends-tail.ensures.1 ∙ part_at bs at 2 1 (at + 1) (omega arith) (omega arith) in
+    let w = c.read_figures-weight.ensures.weight ∙ part_two bs from 10 0 from (omega arith) (omega arith) in
+    let d = c.read_figures-weight.ensures.delay ∙ part_four bs from 10 2 (from + 2) (omega arith) (omega arith) in
+    let f = c.read_figures-weight.ensures.figure ∙ part_four bs from 10 6 (from + 6) (omega arith) (omega arith) in
     λ i. record { tail = t i; head = h i; weight = w i; delay = microseconds (d i); figure = f i }

@@ -4,25 +4,27 @@ use Rattle.netmap.specs.Opening.{first_places}
 use Rattle.netmap.proofs.Changes.{sizes_pass}
 use Rattle.netmap.proofs.Tables.{all_none, emptied, shut_sound, emptied_sound}
 use Rattle.netmap.proofs.table.RecordTable.clear.Goals as goal
+use Rattle.netmap.proofs.table.RecordTable.clear.Goals.{After-loop-i}
 
-pub invariant-of-self : goal.invariant-of-self
-invariant-of-self c =
+pub invariant_of-self : goal.invariant_of-self
+invariant_of-self c =
     let n = c.args.nodes in
     let xs = c.args.self.now.records.now in
     let s = sizes_pass n (length xs) c.requires in
-    (search rules, (∣ shut_sound n xs s.low s.high ∣₁, tt))
+    record { within = search rules; ok = ∣ shut_sound n xs s.low s.high ∣₁ }
 
-pub invariant-of-self-in-loop-i : goal.invariant-of-self-in-loop-i
-invariant-of-self-in-loop-i c =
+pub invariant_of-self-in-loop-i : goal.invariant_of-self-in-loop-i
+invariant_of-self-in-loop-i c =
     let t = c.loop-i.self in
     let n = c.args.nodes in
     let m = length c.args.self.now.records.now in
     let s = sizes_pass n m c.requires in
     let xs = set t.records.now c.loop-i.i None in
-    let P : ℕ → Type 0 = λ k. Sound (first_places t.nodes k xs) in (
-      omega (arith, length-set t.records.now c.loop-i.i None, t.within),
-      (∣ subst P (sym c.loop-i.invariant.1) (shut_sound t.nodes xs (omega (arith, c.loop-i.invariant.2, s.low)) (omega (arith, c.loop-i.invariant.2, s.high))) ∣₁, tt),
-    )
+    let P : ℕ → Type 0 = λ k. Sound (first_places t.nodes k xs) in
+    record {
+      within = omega (arith, length-set t.records.now c.loop-i.i None, t.within);
+      ok = ∣ subst P (sym c.loop-i.invariant.1) (shut_sound t.nodes xs (omega (arith, c.loop-i.invariant.2, s.low)) (omega (arith, c.loop-i.invariant.2, s.high))) ∣₁;
+    }
 
 pub loop-i-preserved : goal.loop-i-preserved
 loop-i-preserved c = (
@@ -35,16 +37,19 @@ loop-i-preserved c = (
   length-set c.loop-i.self.records.now c.loop-i.i None ∙ c.loop-i.invariant.4,
 )
 
-cleared : (c : goal.After-loop-i) → c.loop-i.self.records.now ≡ replicate (length c.args.self.now.records.now) None
+cleared : (c : After-loop-i) → c.loop-i.self.records.now ≡ replicate (length c.args.self.now.records.now) None
 cleared c = all_none c.loop-i.self.records.now (length c.args.self.now.records.now) c.loop-i.invariant.4 (λ d k h. c.loop-i.invariant.0 d k (omega (arith, c.loop-i-test.false)))
 
-pub invariant-of-self-2 : goal.invariant-of-self-2
-invariant-of-self-2 c =
+pub invariant_of-self-2 : goal.invariant_of-self-2
+invariant_of-self-2 c =
     let t = c.loop-i.self in
     let n = c.args.nodes in
     let m = length c.args.self.now.records.now in
     let s = sizes_pass n m c.requires in
-    (search rules, (∣ emptied_sound t.nodes m t.records.now (omega (arith, c.loop-i.invariant.2, s.low)) (omega (arith, c.loop-i.invariant.2, s.high)) s.few (cleared c) ∣₁, tt))
+    record {
+      within = search rules;
+      ok = ∣ emptied_sound t.nodes m t.records.now (omega (arith, c.loop-i.invariant.2, s.low)) (omega (arith, c.loop-i.invariant.2, s.high)) s.few (cleared c) ∣₁;
+    }
 
 pub returns : goal.returns
 returns c =

@@ -7,4 +7,4 @@ use Rattle.netmap.proofs.table.RecordTable.may_put.Goals as goal
 pub returns : goal.returns
 returns c =
     let t = c.args.self.now in
-    put_checks (table_net t) t.places c.args.place (table_count t) c.args.link (search rules) c.check-put.result c.check-put.ensures
+    put_checks (table_net t) t.places c.args.place (table_count t) c.args.link (search rules) c.check_put.result c.check_put.ensures

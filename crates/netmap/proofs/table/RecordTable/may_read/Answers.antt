@@ -6,4 +6,4 @@ use Rattle.netmap.proofs.table.RecordTable.may_read.Goals as goal
 pub returns : goal.returns
 returns c =
     let t = c.args.self.now in
-    read_checks (table_net t) t.places c.args.place (table_count t) c.check-place.result c.check-place.ensures
+    read_checks (table_net t) t.places c.args.place (table_count t) c.check_place.result c.check_place.ensures
