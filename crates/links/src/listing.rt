@@ -65,7 +65,7 @@ fn add_place(
 
 // The counts of a map, then a line for each filled place.
 pub(crate) fn listing<M: Map>(heap: Global, map: &M) -> Result<String, AllocError>
-    ensures { IfOk result (λ text. string_bytes text ≡ listed (meaning map.now)) }
+    ensures { IfOk result (λ text. string_bytes text ≡ listed (M.meaning map.now)) }
 {
     let counts = Counts {
         nodes: map.nodes(),
@@ -77,7 +77,7 @@ pub(crate) fn listing<M: Map>(heap: Global, map: &M) -> Result<String, AllocErro
 }
 
 fn add_places<M: Map>(heap: Global, text: &mut String, map: &M) -> Result<(), AllocError>
-    ensures { OnOk result (string_bytes text.new ≡ string_bytes text.old ++ places_text 0 (meaning map.now).links) }
+    ensures { OnOk result (string_bytes text.new ≡ string_bytes text.old ++ places_text 0 (M.meaning map.now).links) }
 {
     for place in 0..map.places() {
         add_place(heap, text, place, held(map, place))?;

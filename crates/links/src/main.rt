@@ -1,4 +1,6 @@
 // Reads map bytes on standard input, and lists the map or says why it is refused.
+#![tactic(auto)]
+
 mod listing;
 #[cfg(test)]
 mod tests;

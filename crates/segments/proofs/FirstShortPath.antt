@@ -1,12 +1,11 @@
 -- Among the paths of at most k links from one node to another there is a first one in any order.
-use Rattle.std.proofs.Common.{◌≡◌, ℕ, zero, suc, ◌<◌, ◌≤◌, T, ◌⊎◌, List, [], ◌∷◌, length, Some, None, Option, sym, refl, ap, ◌∙◌, subst, inl, inr, ⊎_elim, arith}
+use Rattle.std.proofs.Common.{◌≡◌, ℕ, zero, suc, ◌<◌, ◌≤◌, ◌⊎◌, List, [], ◌∷◌, length, Some, None, Option, sym, refl, ap, ◌∙◌, subst, inl, inr, ⊎_elim, arith}
 use Rattle.std.proofs.lemmas.List.{get_or_past}
 use Rattle.std.proofs.lemmas.Bool.{cases_eq, cases_lt}
 use Rattle.netmap.specs.declared.link.Link.{Link}
 use Rattle.netmap.specs.Net.{Net, link_at, places}
 use Rattle.segments.specs.Paths.{IsPath}
 use Rattle.segments.proofs.OptionValues.{some_same, none_some}
-use Rattle.segments.proofs.SimplePaths.{heads}
 
 pub record Preorder {A : Type 0} (R : A → A → Type 0) : Type 0 where
   pub total : (x y : A) → R x y ⊎ R y x

@@ -1,4 +1,6 @@
 // Segment routing over any map and any tariff: best paths, node and adjacency segments, and segment lists.
+#![tactic(auto)]
+
 mod distances;
 mod ecmp;
 pub mod entry;

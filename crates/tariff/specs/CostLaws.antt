@@ -1,5 +1,5 @@
 -- Costs are ranked and join lawfully.
-use Rattle.std.specs.Prelude.{◌≡◌, ℕ, ◌+◌, ◌<◌, ◌≤◌, min, T, ◌⊎◌}
+use Rattle.std.specs.Prelude.{◌≡◌, ◌<◌, ◌≤◌, T}
 use Rattle.std.proofs.Common.{sym, subst, inl, inr, ⊎_elim, arith, leb→le, le-leb}
 use mathlib.Core.HLevel.{is_prop→PathP}
 use Rattle.std.proofs.Math.Bridge.{le_prop}

@@ -1,5 +1,5 @@
 -- Scarcities are ranked and join lawfully.
-use Rattle.std.specs.Prelude.{◌≡◌, ℕ, ◌<◌, ◌≤◌, max, ◌⊎◌}
+use Rattle.std.specs.Prelude.{◌≡◌, ◌<◌, ◌≤◌}
 use Rattle.std.proofs.Common.{inl, inr, ⊎_elim, arith, leb→le, le→leb}
 use Rattle.std.proofs.lemmas.Bool.{cases_lt}
 use Rattle.tariff.specs.declared.scarcity.Scarcity.{Scarcity}

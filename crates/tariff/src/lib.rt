@@ -1,4 +1,6 @@
 // Tariffs: what a link is worth, how values join along a path, and which of two is better.
+#![tactic(auto)]
+
 ghost use Rattle.std.specs.Prelude.{◌≡◌, Bool};
 ghost use Rattle.tariff.specs.Joinings.{Joining, Joins};
 ghost use Rattle.tariff.specs.Rankings.{Ranks};

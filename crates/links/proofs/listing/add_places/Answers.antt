@@ -1,4 +1,4 @@
-use Rattle.std.proofs.Common.{◌≡◌, ◌<◌, ◌≤◌, ◌++◌, string_bytes, ap, ◌∙◌, arith}
+use Rattle.std.proofs.Common.{◌<◌, ◌≤◌, ◌++◌, string_bytes, ap, ◌∙◌, arith}
 use Rattle.netmap.specs.Net.{places}
 use Rattle.links.specs.Texts.{place_text}
 use Rattle.links.proofs.Texts.{lines_more, lines_all}
@@ -10,8 +10,8 @@ loop-place-preserved g c =
     let k = c.loop-place.place in
     let text = string_bytes c.loop-place.text in
     let lt : k < places net = omega (arith, c.places-place-end.ensures, c.loop-place-test.true) in
-    lines_more net (string_bytes c.args.text.now) k text (string_bytes c.add-place.new.text) lt c.loop-place.invariant
-    (c.in-ok-add-place.ensures ∙ ap (λ o. text ++ place_text k o) c.held.ensures)
+    lines_more net (string_bytes c.args.text.now) k text (string_bytes c.add_place.new.text) lt c.loop-place.invariant
+    (c.in_ok-add_place.ensures ∙ ap (λ o. text ++ place_text k o) c.held.ensures)
 
 pub returns : goal.returns
 returns g c =

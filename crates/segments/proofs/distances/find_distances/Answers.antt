@@ -8,7 +8,7 @@ pub loop-k-init : goal.loop-k-init
 loop-k-init g c =
     let net = g.M.Map.meaning c.args.map.now in
     let sound = g.M.Map.sound c.args.map.now in
-    (start_found net sound c.args.n c.start-distances.new.dist c.start-distances.ensures, λ j e. omega arith)
+    (start_found net sound c.args.n c.start_distances.new.dist c.start_distances.ensures, λ j e. omega arith)
 
 pub round-requires : goal.round-requires
 round-requires g c =
@@ -18,13 +18,13 @@ round-requires g c =
     let same = c.requires.nodes in
     record {
       nodes = same;
-      sized = subst (λ m. n * n ≤ m) (sym (c.loop-k.auto.dist ∙ c.start-distances.auto.dist)) c.requires.sized;
+      sized = subst (λ m. n * n ≤ m) (sym (c.loop-k.auto.dist ∙ c.start_distances.auto.dist)) c.requires.sized;
       space = subst (λ m. n * n ≤ m) (sym c.loop-k.auto.spread) c.requires.space;
       known = found_known net sound n same c.loop-k.k c.loop-k.dist c.loop-k.invariant.0 c.loop-k-test.true;
     }
 
-pub returns-then-not-take-over : goal.returns-then-not-take-over
-returns-then-not-take-over g c =
+pub returns-then-not-take_over : goal.returns-then-not-take_over
+returns-then-not-take_over g c =
     let net = g.M.Map.meaning c.args.map.now in
     let sound = g.M.Map.sound c.args.map.now in
     let n = c.args.n in
@@ -32,13 +32,13 @@ returns-then-not-take-over g c =
     let k = c.loop-k.k in
     let old = c.loop-k.dist in
     let new = delays c.round.new.spread in
-    let still = c.take-over.ensures.none c.if-not-take-over.true in
+    let still = c.take_over.ensures.none c.if-not-take_over.true in
     let exact : Exact net n old = round_exact net sound n same k old c.loop-k.invariant.0 new c.round.ensures still in
     record {
       measured = record {
         nodes = same;
-        sized = subst (λ m. n * n ≤ m) (sym (c.take-over.auto.dist ∙ c.loop-k.auto.dist ∙ c.start-distances.auto.dist)) c.requires.sized;
-        exact = exact_same net n old c.take-over.new.dist (λ i h. still i h ∙ sym (c.take-over.ensures.taken i h)) exact;
+        sized = subst (λ m. n * n ≤ m) (sym (c.take_over.auto.dist ∙ c.loop-k.auto.dist ∙ c.start_distances.auto.dist)) c.requires.sized;
+        exact = exact_same net n old c.take_over.new.dist (λ i h. still i h ∙ sym (c.take_over.ensures.taken i h)) exact;
       };
       rounds = record { links = k; made = refl; enough = found_enough net sound n same k old c.loop-k.invariant.0 exact; least = c.loop-k.invariant.1 };
     }
@@ -52,10 +52,10 @@ loop-k-preserved g c =
     let k = c.loop-k.k in
     let old = c.loop-k.dist in
     let new = delays c.round.new.spread in (
-      found_same net (k + 1) n new c.take-over.new.dist (λ i h. sym (c.take-over.ensures.taken i h)) (round_found net sound n same k old c.loop-k.invariant.0 new c.round.ensures),
+      found_same net (k + 1) n new c.take_over.new.dist (λ i h. sym (c.take_over.ensures.taken i h)) (round_found net sound n same k old c.loop-k.invariant.0 new c.round.ensures),
       λ j e. ⊎_elim
           (λ (h : k < j). omega arith)
-          (λ (h : j ≤ k). absurd (c.take-over.ensures.some c.if-not-take-over.false (enough_still net sound n same k old c.loop-k.invariant.0 new c.round.ensures j e h)))
+          (λ (h : j ≤ k). absurd (c.take_over.ensures.some c.if-not-take_over.false (enough_still net sound n same k old c.loop-k.invariant.0 new c.round.ensures j e h)))
           (cases_lt k j),
     )
 

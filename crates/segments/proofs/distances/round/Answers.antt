@@ -3,12 +3,12 @@ use Rattle.segments.specs.Distances.{delays}
 use Rattle.segments.proofs.NodesReached.{held_sound, few_nodes}
 use Rattle.segments.proofs.RoundMade.{round_first, round_all, place_empty, place_filled}
 use Rattle.segments.proofs.distances.round.Goals as goal
-use Rattle.segments.proofs.distances.round.Goals.{in-Some, in-default}
+use Rattle.segments.proofs.distances.round.Goals.{in-Some, in_default}
 
 pub loop-place-init : goal.loop-place-init
 loop-place-init g c =
     let net = g.M.Map.meaning c.args.map.now in
-    round_first net c.args.n c.args.dist.now c.requires.known (delays c.carry-over.new.spread) c.carry-over.ensures
+    round_first net c.args.n c.args.dist.now c.requires.known (delays c.carry_over.new.spread) c.carry_over.ensures
 
 pub sweep-requires : goal.sweep-requires
 sweep-requires g c =
@@ -20,7 +20,7 @@ sweep-requires g c =
       tail = s.tail;
       head = s.head;
       sized = c.requires.sized;
-      space = subst (λ m. c.args.n * c.args.n ≤ m) (sym (c.loop-place.auto.spread ∙ c.carry-over.auto.spread)) c.requires.space;
+      space = subst (λ m. c.args.n * c.args.n ≤ m) (sym (c.loop-place.auto.spread ∙ c.carry_over.auto.spread)) c.requires.space;
       known = c.requires.known;
     }
 
@@ -30,7 +30,7 @@ loop-place-preserved g c =
     let sound = g.M.Map.sound c.args.map.now in
     elim c.match-held.branch [
       | in-Some w ↦ place_filled net c.args.n c.args.dist.now c.requires.known c.loop-place.spread c.match-held.spread c.loop-place.place c.loop-place.invariant sound c.requires.nodes w.in-Some.link w.sweep.new.spread w.spread-is w.in-Some.ensures w.sweep.ensures
-      | in-default w ↦ place_empty net c.args.n c.args.dist.now c.requires.known c.loop-place.spread c.match-held.spread c.loop-place.place c.loop-place.invariant w.spread-is w.in-default.ensures
+      | in_default w ↦ place_empty net c.args.n c.args.dist.now c.requires.known c.loop-place.spread c.match-held.spread c.loop-place.place c.loop-place.invariant w.spread-is w.in_default.ensures
     ]
 
 pub returns : goal.returns

@@ -10,8 +10,8 @@ loop-i-preserved g c =
     let taking = c.loop-i.invariant in
     let ys = delays c.args.spread.now in
     elim c.if-dist-i.branch [
-      | then-dist-i w ↦ taking_new i c.args.dist.now c.loop-i.dist ys c.loop-i.any taking c.if-dist-i.dist c.if-dist-i.any c.kept-at-found.result c.kept-at-found.ensures w.dist-is w.any-is (omega arith) w.if-dist-i.true
-      | else-dist-i w ↦ taking_old i c.args.dist.now c.loop-i.dist ys c.loop-i.any taking c.if-dist-i.dist c.if-dist-i.any c.kept-at-found.result c.kept-at-found.ensures w.dist-is w.any-is w.if-dist-i.false
+      | then-dist-i w ↦ taking_new i c.args.dist.now c.loop-i.dist ys c.loop-i.any taking c.if-dist-i.dist c.if-dist-i.any c.kept_at-found.result c.kept_at-found.ensures w.dist-is w.any-is (omega arith) w.if-dist-i.true
+      | else-dist-i w ↦ taking_old i c.args.dist.now c.loop-i.dist ys c.loop-i.any taking c.if-dist-i.dist c.if-dist-i.any c.kept_at-found.result c.kept_at-found.ensures w.dist-is w.any-is w.if-dist-i.false
     ]
 
 pub returns : goal.returns

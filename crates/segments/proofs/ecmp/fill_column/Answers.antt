@@ -13,8 +13,8 @@ loop-key-init g c =
     let alg = algebra g.V.Ranking.good g.V.Tariff.joining in
     (filled_first net alg c.args.n c.args.dist.now c.args.v c.args.spread.now, spared_first net alg c.args.n c.args.dist.now c.args.v c.args.spread.now)
 
-pub figures-between-figures-requires : goal.figures-between-figures-requires
-figures-between-figures-requires g c =
+pub figures_between-figures-requires : goal.figures_between-figures-requires
+figures_between-figures-requires g c =
     let net = g.M.Map.meaning c.args.map.now in
     let sound = g.M.Map.sound c.args.map.now in
     let alg = algebra g.V.Ranking.good g.V.Tariff.joining in
@@ -29,22 +29,22 @@ figures-between-figures-requires g c =
       heads = key_heads net alg c.args.n c.args.dist.now c.args.v sound c.requires.measured c.requires.to l.bar l.spread l.invariant.0 c.in-Some.key least;
     }
 
-pub overflow-mul-u : goal.overflow-mul-u
-overflow-mul-u g c =
+pub overflow_mul-u : goal.overflow_mul-u
+overflow_mul-u g c =
     let few = few_nodes (g.M.Map.meaning c.args.map.now) (g.M.Map.sound c.args.map.now) c.args.n c.requires.measured.nodes in
     fits_place (c.in-Some.key % c.args.n) c.args.n (key_below c.in-Some.ensures.0) few
 
-pub overflow-add-u : goal.overflow-add-u
-overflow-add-u g c =
+pub overflow_add-u : goal.overflow_add-u
+overflow_add-u g c =
     let few = few_nodes (g.M.Map.meaning c.args.map.now) (g.M.Map.sound c.args.map.now) c.args.n c.requires.measured.nodes in
     fits_next (c.in-Some.key % c.args.n) c.args.n c.args.v (key_below c.in-Some.ensures.0) c.requires.to few
 
-pub write-slot-requires : goal.write-slot-requires
-write-slot-requires g c =
+pub write_slot-requires : goal.write_slot-requires
+write_slot-requires g c =
     lt_of_lt_of_le (digits_lt (key_below c.in-Some.ensures.0) c.requires.to) (subst (λ m. c.args.n * c.args.n ≤ m) (sym c.loop-key.auto.spread) c.requires.space)
 
-pub overflow-add-bar : goal.overflow-add-bar
-overflow-add-bar g c = fits_key c.in-Some.key (key_small (g.M.Map.meaning c.args.map.now) (g.M.Map.sound c.args.map.now) c.requires.measured c.requires.to c.in-Some.ensures.0)
+pub overflow_add-bar : goal.overflow_add-bar
+overflow_add-bar g c = fits_key c.in-Some.key (key_small (g.M.Map.meaning c.args.map.now) (g.M.Map.sound c.args.map.now) c.requires.measured c.requires.to c.in-Some.ensures.0)
 
 pub loop-key-smaller : goal.loop-key-smaller
 loop-key-smaller g c =
@@ -62,10 +62,10 @@ loop-key-preserved g c =
     let l = c.loop-key in
     let key = c.in-Some.key in
     let least = c.in-Some.ensures in
-    let s = c.figures-between-figures.result in
+    let s = c.figures_between-figures.result in
     let wide = subst (λ m. n * n ≤ m) (sym l.auto.spread) c.requires.space in (
-      filled_more net alg n dist v sound c.requires.measured c.requires.to l.bar l.spread l.invariant.0 key least s c.write-slot.new.spread c.write-slot.ensures wide c.figures-between-figures.ensures,
-      spared_more net alg n dist v sound c.requires.measured c.requires.to l.bar l.spread l.invariant.0 key least s c.write-slot.new.spread c.write-slot.ensures wide c.figures-between-figures.ensures c.args.spread.now l.invariant.1,
+      filled_more net alg n dist v sound c.requires.measured c.requires.to l.bar l.spread l.invariant.0 key least s c.write_slot.new.spread c.write_slot.ensures wide c.figures_between-figures.ensures,
+      spared_more net alg n dist v sound c.requires.measured c.requires.to l.bar l.spread l.invariant.0 key least s c.write_slot.new.spread c.write_slot.ensures wide c.figures_between-figures.ensures c.args.spread.now l.invariant.1,
     )
 
 pub returns : goal.returns
@@ -75,6 +75,6 @@ returns g c =
     let alg = algebra g.V.Ranking.good g.V.Tariff.joining in
     let l = c.loop-key in
     record {
-      done = filled_all net alg c.args.n c.args.dist.now c.args.v sound c.requires.measured c.requires.to l.bar l.spread l.invariant.0 c.in-default.ensures;
+      done = filled_all net alg c.args.n c.args.dist.now c.args.v sound c.requires.measured c.requires.to l.bar l.spread l.invariant.0 c.in_default.ensures;
       spared = l.invariant.1;
     }

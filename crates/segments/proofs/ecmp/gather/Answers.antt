@@ -7,10 +7,10 @@ use Rattle.segments.proofs.FiguresGathered.{Gathered, gathered_same, gathered_mo
 use Rattle.segments.proofs.FiguresSmall.{ecmp_small}
 use Rattle.segments.proofs.NodesReached.{link_sound}
 use Rattle.segments.proofs.ecmp.gather.Goals as goal
-use Rattle.segments.proofs.ecmp.gather.Goals.{in-Some, in-default}
+use Rattle.segments.proofs.ecmp.gather.Goals.{in-Some, in_default}
 
-pub go-on-requires : goal.go-on-requires
-go-on-requires g c =
+pub go_on-requires : goal.go_on-requires
+go_on-requires g c =
     let net = g.M.Map.meaning c.args.map.now in
     let sound = g.M.Map.sound c.args.map.now in
     let alg = algebra g.V.Ranking.good g.V.Tariff.joining in
@@ -37,8 +37,8 @@ loop-place-preserved g c =
     let p = c.loop-place.place in
     let found = c.loop-place.found in
     elim c.match-tight.branch [
-      | in-Some w ↦ gathered_more net alg n xs u v lawful p found c.match-tight.found w.in-Some.link w.go-on.result w.worse.result w.in-Some.ensures w.go-on.ensures w.worse.ensures w.found-is c.loop-place.invariant
-      | in-default w ↦ gathered_same net alg n xs u v p found c.match-tight.found w.in-default.ensures w.found-is c.loop-place.invariant
+      | in-Some w ↦ gathered_more net alg n xs u v lawful p found c.match-tight.found w.in-Some.link w.go_on.result w.worse.result w.in-Some.ensures w.go_on.ensures w.worse.ensures w.found-is c.loop-place.invariant
+      | in_default w ↦ gathered_same net alg n xs u v p found c.match-tight.found w.in_default.ensures w.found-is c.loop-place.invariant
     ]
 
 pub unreachable-requires : goal.unreachable-requires

@@ -4,12 +4,12 @@ use Rattle.segments.proofs.FiguresOnward.{slot_read, onward_is}
 use Rattle.segments.proofs.NumbersFit.{fits_delay}
 use Rattle.segments.proofs.ecmp.go_on.Goals as goal
 
-pub overflow-add-result : goal.overflow-add-result
-overflow-add-result g c =
+pub overflow_add-result : goal.overflow_add-result
+overflow_add-result g c =
     let alg = algebra g.V.Ranking.good g.V.Tariff.joining in
     let r = c.index-spread-slot.result in
     let read = slot_read alg c.args.spread.now c.args.slot r c.requires.within c.index-spread-slot.is in
-    fits_delay c.args.link.delay.0 r.delay.0 c.requires.own_val (subst (λ s. s.delay.0 ≤ 6300000) read c.requires.rest)
+    fits_delay c.args.link.delay.0 r.delay.0 c.requires.own (subst (λ s. s.delay.0 ≤ 6300000) read c.requires.rest)
 
 pub returns : goal.returns
 returns g c =

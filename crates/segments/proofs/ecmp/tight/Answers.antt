@@ -17,8 +17,8 @@ bounds-dist-link g c =
 pub bounds-dist-u : goal.bounds-dist-u
 bounds-dist-u g c = lt_of_lt_of_le (digits_lt c.requires.from c.requires.to) c.requires.measured.sized
 
-pub overflow-add-link : goal.overflow-add-link
-overflow-add-link g c =
+pub overflow_add-link : goal.overflow_add-link
+overflow_add-link g c =
     let net = g.M.Map.meaning c.args.map.now in
     let sound = g.M.Map.sound c.args.map.now in
     let l = c.in-Some.link in

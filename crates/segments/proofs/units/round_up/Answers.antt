@@ -3,4 +3,4 @@ use Rattle.segments.proofs.GrainsRounded.{rounded_up}
 use Rattle.segments.proofs.units.round_up.Goals as goal
 
 pub returns : goal.returns
-returns c = c.div-ceil.ensures ∙ rounded_up c.args.grain.0 c.args.delay.0 c.requires
+returns c = c.div_ceil.ensures ∙ rounded_up c.args.grain.0 c.args.delay.0 c.requires

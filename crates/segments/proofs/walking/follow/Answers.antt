@@ -1,4 +1,4 @@
-use Rattle.std.proofs.Common.{get_or, refl, arith}
+use Rattle.std.proofs.Common.{get_or, arith}
 use Rattle.segments.specs.Algebra.{algebra}
 use Rattle.segments.proofs.FiguresSmall.{segment_small}
 use Rattle.segments.proofs.WalkSteps.{walked_more, walked_stuck, walked_all}

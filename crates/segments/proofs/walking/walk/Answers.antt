@@ -6,18 +6,18 @@ use Rattle.segments.proofs.walking.walk.Goals as goal
 
 pub route-requires : goal.route-requires
 route-requires g c =
-    let a = admitted c.nodes-n.result c.args.source c.args.grain.0 (length c.args.dist.now) (length c.args.spread.now) (length c.args.list.now) c.in-ok-check-walk.ensures in
+    let a = admitted c.nodes-n.result c.args.source c.args.grain.0 (length c.args.dist.now) (length c.args.spread.now) (length c.args.list.now) c.in_ok-check_walk.ensures in
     record { nodes = c.nodes-n.ensures; sized = a.sized; space = a.space }
 
 pub follow-requires : goal.follow-requires
 follow-requires g c =
-    let a = admitted c.nodes-n.result c.args.source c.args.grain.0 (length c.args.dist.now) (length c.args.spread.now) (length c.args.list.now) c.in-ok-check-walk.ensures in
+    let a = admitted c.nodes-n.result c.args.source c.args.grain.0 (length c.args.dist.now) (length c.args.spread.now) (length c.args.list.now) c.in_ok-check_walk.ensures in
     record { routed = c.route.ensures; from = a.from; grain = a.fine; short = a.short }
 
-pub returns-in-err-check-walk : goal.returns-in-err-check-walk
-returns-in-err-check-walk g c =
+pub returns-in_err-check_walk : goal.returns-in_err-check_walk
+returns-in_err-check_walk g c =
     let net = g.M.Map.meaning c.args.map.now in
     let alg = algebra g.V.Ranking.good g.V.Tariff.joining in
-    let x = c.in-err-check-walk.field-0.0 in
-    let out = err_from_is_err_and c.from-residual.result c.from-residual.ensures.1 in
-    walk_denied net alg c.args.source c.args.grain.0 c.args.list.now c.args.dist.now c.args.spread.now c.nodes-n.result c.nodes-n.ensures x c.from-residual.result c.in-err-check-walk.ensures (out.1 ∙ ap Err out.2)
+    let x = c.in_err-check_walk.field-0.0 in
+    let out = err_from_is_err_and c.from_residual.result c.from_residual.ensures.1 in
+    walk_denied net alg c.args.source c.args.grain.0 c.args.list.now c.args.dist.now c.args.spread.now c.nodes-n.result c.nodes-n.ensures x c.from_residual.result c.in_err-check_walk.ensures (out.1 ∙ ap Err out.2)
