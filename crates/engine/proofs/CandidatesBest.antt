@@ -1,5 +1,5 @@
 -- The best of the candidates of one more code.
-use Rattle.std.proofs.Common.{◌≡◌, ℕ, ◌+◌, ◌-◌, ◌<◌, Bool, true, false, cond, ◌⊎◌, Some, None, Option, sym, refl, ap, ◌∙◌, subst, inl, inr, ⊎_elim, arith}
+use Rattle.std.proofs.Common.{◌≡◌, ℕ, ◌+◌, ◌<◌, Bool, true, false, cond, ◌⊎◌, Some, None, Option, sym, refl, ap, ◌∙◌, subst, inl, inr, ⊎_elim, arith}
 use Rattle.netmap.specs.Net.{Net}
 use Rattle.segments.specs.Algebra.{Algebra, Laws, AsGood}
 use Rattle.segments.specs.declared.figures.Leg.{Leg}

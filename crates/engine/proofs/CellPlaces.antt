@@ -1,5 +1,5 @@
 -- Where the cells of the table lie.
-use Rattle.std.proofs.Common.{ℕ, ◌+◌, ◌-◌, ◌*◌, ◌<◌, ◌≤◌, mul-le-mul, arith, w64, Fits, rules}
+use Rattle.std.proofs.Common.{ℕ, ◌+◌, ◌*◌, ◌<◌, ◌≤◌, mul-le-mul, arith, w64, Fits, rules}
 use lib.Arith.{digits_lt}
 use Rattle.engine.specs.Cells.{slot}
 

@@ -1,5 +1,5 @@
 -- The slots that hold a pair, counted one by one.
-use Rattle.std.proofs.Common.{◌≡◌, ℕ, ◌+◌, ◌-◌, ◌<◌, Bool, cond, List, [], ◌∷◌, ◌++◌, length, get_or, take, is_some, Option, sym, ap, ◌∙◌, add_assoc, add_comm}
+use Rattle.std.proofs.Common.{◌≡◌, ℕ, ◌+◌, ◌<◌, Bool, cond, List, [], ◌∷◌, ◌++◌, length, get_or, take, is_some, Option, sym, ap, ◌∙◌, add_assoc, add_comm}
 use Rattle.std.proofs.lemmas.List.{take_more}
 use Rattle.engine.specs.Fronts.{held}
 

@@ -1,5 +1,5 @@
 -- The scan of the cells at the source for the best, cell by cell.
-use Rattle.std.proofs.Common.{◌≡◌, ℕ, ◌+◌, ◌<◌, ◌≤◌, Bool, true, false, cond, T, ◌⊎◌, Some, None, Option, sym, refl, ap, ◌∙◌, subst, inl, inr, ⊎_elim, arith}
+use Rattle.std.proofs.Common.{◌≡◌, ℕ, ◌+◌, ◌<◌, ◌≤◌, Bool, true, false, cond, T, Some, None, Option, sym, refl, ap, ◌∙◌, subst, inl, inr, ⊎_elim, arith}
 use Rattle.netmap.specs.Net.{Net}
 use Rattle.segments.specs.Algebra.{Algebra, Laws, AsGood}
 use Rattle.segments.specs.declared.order.Order.{Order}

@@ -1,4 +1,6 @@
 // Segment lists for orders with a bound on delay, over any map and any tariff.
+#![tactic(auto)]
+
 mod checks;
 mod choosing;
 mod filling;

@@ -1,4 +1,6 @@
 // The front keeper: a slot for each number of grains, which hold the Pareto front of the pairs offered.
+#![tactic(auto)]
+
 ghost use Rattle.std.specs.Prelude.{◌≡◌, ℕ, ◌<◌, true, false, [], length, None, slice_index_or};
 ghost use Rattle.keeper.specs.Fronts.{InSlot, Front};
 ghost use Rattle.keeper.specs.Keepers.{Accepted, OfferCall, Beaten, Cleared};

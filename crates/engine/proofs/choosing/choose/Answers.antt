@@ -1,4 +1,4 @@
-use Rattle.std.proofs.Common.{◌-◌, arith}
+use Rattle.std.proofs.Common.{arith}
 use Rattle.segments.specs.Algebra.{algebra}
 use Rattle.engine.specs.Cells.{best_of}
 use Rattle.engine.proofs.SourceScanned.{lead_first, lead_all}
@@ -7,8 +7,8 @@ use Rattle.engine.proofs.choosing.choose.Goals as goal
 pub loop-d-init : goal.loop-d-init
 loop-d-init g c = lead_first (algebra g.V.Ranking.good g.V.Tariff.joining) (λ m e. best_of c.args.cells.n c.args.cells.top c.args.cells.table.now m e c.args.cells.source) c.args.cells.limit
 
-pub choose-at-best-requires : goal.choose-at-best-requires
-choose-at-best-requires g c = record {
+pub choose_at-best-requires : goal.choose_at-best-requires
+choose_at-best-requires g c = record {
   cells = c.requires.cells;
   grains = omega (arith, c.loop-d-test.true);
   lead = c.loop-d.invariant;

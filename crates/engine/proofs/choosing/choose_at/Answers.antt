@@ -1,14 +1,14 @@
-use Rattle.std.proofs.Common.{ℕ, ◌+◌, ◌-◌, length, Some, sym, ap, ◌∙◌, subst, arith}
+use Rattle.std.proofs.Common.{ℕ, ◌+◌, length, Some, sym, ap, ◌∙◌, subst, arith}
 use Rattle.segments.specs.Algebra.{algebra, laws}
 use Rattle.engine.specs.Cells.{best_of}
 use Rattle.engine.specs.Chosen.{LeadOf, Passed}
 use Rattle.engine.proofs.CellPlaces.{room_slot}
 use Rattle.engine.proofs.SourceScanned.{lead_none, lead_some, lead_next}
 use Rattle.engine.proofs.choosing.choose_at.Goals as goal
-use Rattle.engine.proofs.choosing.choose_at.Goals.{in-Some, in-default}
+use Rattle.engine.proofs.choosing.choose_at.Goals.{in-Some, in_default}
 
-pub read-cell-requires : goal.read-cell-requires
-read-cell-requires g c = record {
+pub read_cell-requires : goal.read_cell-requires
+read_cell-requires g c = record {
   nodes = c.requires.cells.nodes;
   top = c.requires.cells.top_high;
   labels = omega (arith, c.loop-l-test.true, c.requires.cells.limit_high);
@@ -24,13 +24,13 @@ loop-l-preserved g c =
     let limit = c.args.cells.limit in
     let d = c.args.d in
     let l = c.loop-l.l in
-    elim c.match-read-cell.branch [
+    elim c.match-read_cell.branch [
       | in-Some w ↦
           subst (LeadOf alg best (Passed limit d (l + 1))) (ap Some (sym w.lead.ensures) ∙ sym w.first-is)
           (lead_some alg best limit d l (laws g.V.Ranking.good g.V.Tariff.joining g.met.V.Ranking.ranks g.met.V.Tariff.joins) w.in-Some.value (omega (arith, c.loop-l-test.true)) (sym w.in-Some.ensures) c.loop-l.first c.loop-l.invariant)
-      | in-default w ↦
+      | in_default w ↦
           subst (LeadOf alg best (Passed limit d (l + 1))) (sym w.first-is)
-          (lead_none alg best limit d l c.loop-l.first (sym w.in-default.ensures) c.loop-l.invariant)
+          (lead_none alg best limit d l c.loop-l.first (sym w.in_default.ensures) c.loop-l.invariant)
     ]
 
 pub returns : goal.returns

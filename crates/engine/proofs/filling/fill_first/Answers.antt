@@ -1,11 +1,11 @@
-use Rattle.std.proofs.Common.{◌+◌, ◌-◌, ◌*◌, ◌≤◌, mul-le-mul, arith}
+use Rattle.std.proofs.Common.{◌+◌, ◌*◌, ◌≤◌, mul-le-mul, arith}
 use Rattle.segments.specs.Algebra.{algebra, laws}
 use Rattle.engine.proofs.CellPlaces.{cells_fit}
 use Rattle.engine.proofs.LevelsFilled.{first_within, first_row}
 use Rattle.engine.proofs.filling.fill_first.Goals as goal
 
-pub overflow-mul-n : goal.overflow-mul-n
-overflow-mul-n g c = let a : c.args.n * (c.args.top + 1) ≤ 64 * 1001 = mul-le-mul {n₁ = c.args.n} {m₁ = c.args.top + 1} {n₂ = 64} {m₂ = 1001} c.requires.nodes (omega (arith, c.requires.top)) in cells_fit (c.args.n * (c.args.top + 1)) (omega arith)
+pub overflow_mul-n : goal.overflow_mul-n
+overflow_mul-n g c = let a : c.args.n * (c.args.top + 1) ≤ 64 * 1001 = mul-le-mul {n₁ = c.args.n} {m₁ = c.args.top + 1} {n₂ = 64} {m₂ = 1001} c.requires.nodes (omega (arith, c.requires.top)) in cells_fit (c.args.n * (c.args.top + 1)) (omega arith)
 
 pub place-at-requires : goal.place-at-requires
 place-at-requires g c = record { nodes = c.requires.nodes; top = c.requires.top; labels = omega arith; node = c.requires.node; grains = omega arith }

@@ -1,11 +1,11 @@
-use Rattle.std.proofs.Common.{◌+◌, ◌-◌, ◌<◌, sym, subst, arith}
+use Rattle.std.proofs.Common.{◌+◌, ◌<◌, sym, subst, arith}
 use Rattle.segments.specs.Algebra.{algebra, laws}
 use Rattle.engine.specs.Cells.{best_of}
 use Rattle.engine.proofs.LegsBounded.{leg_at}
 use Rattle.engine.proofs.CellPlaces.{slot_before}
 use Rattle.engine.proofs.RowFilled.{RowTo, row_start, row_none, row_far, row_more, row_kept, row_cells}
 use Rattle.engine.proofs.filling.fill_row.Goals as goal
-use Rattle.engine.proofs.filling.fill_row.Goals.{in-Some+then-g-search, in-Some+else-g-search, in-default}
+use Rattle.engine.proofs.filling.fill_row.Goals.{in-Some+then-g-search, in-Some+else-g-search, in_default}
 
 pub place-requires : goal.place-requires
 place-requires g c =
@@ -60,13 +60,13 @@ loop-code-preserved g c =
     elim c.match-entry.branch [
       | in-Some+then-g-search w ↦
           subst (RowTo net alg grain top row at v (k + 1) before) (sym w.table-is)
-          (row_more net alg lawful grain n top l at v k before xs c.place-row.ensures c.requires.routed.measured.nodes c.loop-code.invariant w.in-Some.leg (at-leg w.in-Some.leg node w.in-Some.ensures) w.round-up-g.result.0 w.place.result w.improve.new.table w.round-up-g.ensures w.if-g-search.true w.place.ensures w.improve.ensures)
+          (row_more net alg lawful grain n top l at v k before xs c.place-row.ensures c.requires.routed.measured.nodes c.loop-code.invariant w.in-Some.leg (at-leg w.in-Some.leg node w.in-Some.ensures) w.round_up-g.result.0 w.place.result w.improve.new.table w.round_up-g.ensures w.if-g-search.true w.place.ensures w.improve.ensures)
       | in-Some+else-g-search w ↦
           subst (RowTo net alg grain top row at v (k + 1) before) (sym w.table-is)
-          (row_far net alg lawful grain n top l at v k before xs c.place-row.ensures c.requires.routed.measured.nodes c.loop-code.invariant w.in-Some.leg (at-leg w.in-Some.leg node w.in-Some.ensures) (omega (arith, w.round-up-g.ensures, w.if-g-search.false)))
-      | in-default w ↦
+          (row_far net alg lawful grain n top l at v k before xs c.place-row.ensures c.requires.routed.measured.nodes c.loop-code.invariant w.in-Some.leg (at-leg w.in-Some.leg node w.in-Some.ensures) (omega (arith, w.round_up-g.ensures, w.if-g-search.false)))
+      | in_default w ↦
           subst (RowTo net alg grain top row at v (k + 1) before) (sym w.table-is)
-          (row_none net alg lawful grain n top l at v k before xs c.place-row.ensures c.requires.routed.measured.nodes c.loop-code.invariant w.in-default.ensures)
+          (row_none net alg lawful grain n top l at v k before xs c.place-row.ensures c.requires.routed.measured.nodes c.loop-code.invariant w.in_default.ensures)
     ]
 
 pub returns : goal.returns

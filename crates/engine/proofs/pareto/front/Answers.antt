@@ -8,25 +8,25 @@ use Rattle.engine.proofs.FrontFilled.{first_long, front_returned, front_denied, 
 use Rattle.engine.proofs.OrderAdmitted.{admitted}
 use Rattle.engine.proofs.pareto.front.Goals as goal
 
-pub returns-in-err-check-order : goal.returns-in-err-check-order
-returns-in-err-check-order g c =
+pub returns-in_err-check_order : goal.returns-in_err-check_order
+returns-in_err-check_order g c =
     let net = g.M.Map.meaning c.args.map.now in
     let alg = algebra g.V.Ranking.good g.V.Tariff.joining in
     let o = c.args.order in
     let room = room_of c.args.dist.now c.args.spread.now c.args.table.now in
-    let x = c.in-err-check-order.field-0.0 in
-    let out = err_from_is_err_and c.from-residual.result c.from-residual.ensures.1 in
-    let d = denied (order_denial net o room) x tt c.in-err-check-order.ensures in
+    let x = c.in_err-check_order.field-0.0 in
+    let out = err_from_is_err_and c.from_residual.result c.from_residual.ensures.1 in
+    let d = denied (order_denial net o room) x tt c.in_err-check_order.ensures in
     record {
-      call = front_denied net alg o room c.args.slots.now c.from-residual.result x d (out.1 ∙ ap Err out.2);
+      call = front_denied net alg o room c.args.slots.now c.from_residual.result x d (out.1 ∙ ap Err out.2);
       slices = λ y is. refl;
     }
 
-pub most-grains-top-requires : goal.most-grains-top-requires
-most-grains-top-requires g c =
+pub most_grains-top-requires : goal.most_grains-top-requires
+most_grains-top-requires g c =
     let net = g.M.Map.meaning c.args.map.now in
     let room = room_of c.args.dist.now c.args.spread.now c.args.table.now in
-    (admitted net c.args.order room (granted (order_denial net c.args.order room) tt tt c.in-ok-check-order.ensures)).grain_low
+    (admitted net c.args.order room (granted (order_denial net c.args.order room) tt tt c.in_ok-check_order.ensures)).grain_low
 
 pub returns-then-slots-top : goal.returns-then-slots-top
 returns-then-slots-top g c =
@@ -34,8 +34,8 @@ returns-then-slots-top g c =
     let alg = algebra g.V.Ranking.good g.V.Tariff.joining in
     let o = c.args.order in
     let room = room_of c.args.dist.now c.args.spread.now c.args.table.now in
-    let none = granted (order_denial net o room) tt tt c.in-ok-check-order.ensures in
-    let short : length c.args.slots.now < most_grains_of o + 1 = omega (arith, c.if-slots-top.true, c.most-grains-top.ensures) in
+    let none = granted (order_denial net o room) tt tt c.in_ok-check_order.ensures in
+    let short : length c.args.slots.now < most_grains_of o + 1 = omega (arith, c.if-slots-top.true, c.most_grains-top.ensures) in
     record {
       call = front_cramped net alg o room c.args.slots.now _ none (short) (ap Err c.of_order.ensures);
       slices = λ y is. refl;
@@ -45,7 +45,7 @@ pub route-requires : goal.route-requires
 route-requires g c =
     let net = g.M.Map.meaning c.args.map.now in
     let room = room_of c.args.dist.now c.args.spread.now c.args.table.now in
-    let a = admitted net c.args.order room (granted (order_denial net c.args.order room) tt tt c.in-ok-check-order.ensures) in
+    let a = admitted net c.args.order room (granted (order_denial net c.args.order room) tt tt c.in_ok-check_order.ensures) in
     let square : c.nodes-n.result * c.nodes-n.result ≡ net.nodes * net.nodes = ap (λ k. k * k) c.nodes-n.ensures in
     record {
       nodes = c.nodes-n.ensures;
@@ -58,9 +58,9 @@ fill-requires g c =
     let net = g.M.Map.meaning c.args.map.now in
     let o = c.args.order in
     let room = room_of c.args.dist.now c.args.spread.now c.args.table.now in
-    let a = admitted net o room (granted (order_denial net o room) tt tt c.in-ok-check-order.ensures) in
+    let a = admitted net o room (granted (order_denial net o room) tt tt c.in_ok-check_order.ensures) in
     let is = sym c.nodes-n.ensures in
-    let top = sym c.most-grains-top.ensures in
+    let top = sym c.most_grains-top.ensures in
     record {
       routed = c.route.ensures;
       grain = a.grain_low;
@@ -75,18 +75,18 @@ gather-requires g c =
     let net = g.M.Map.meaning c.args.map.now in
     let o = c.args.order in
     let room = room_of c.args.dist.now c.args.spread.now c.args.table.now in
-    let a = admitted net o room (granted (order_denial net o room) tt tt c.in-ok-check-order.ensures) in
+    let a = admitted net o room (granted (order_denial net o room) tt tt c.in_ok-check_order.ensures) in
     let is = sym c.nodes-n.ensures in
-    let top = sym c.most-grains-top.ensures in
+    let top = sym c.most_grains-top.ensures in
     record {
       cells = record {
         nodes = omega (arith, c.nodes-n.ensures, (g.M.Map.sound c.args.map.now).nodes_high);
         top_high = subst (λ k. k ≤ 1000) top a.top;
         limit_high = a.limit_high;
         node = subst (λ k. o.source < k) is a.source;
-        room = subst (λ k. (o.limit.0 + 1) * c.nodes-n.result * (c.most-grains-top.result + 1) ≤ k) (sym c.fill.auto.table) (subst (λ t. (o.limit.0 + 1) * c.nodes-n.result * (t + 1) ≤ length c.args.table.now) top (subst (λ k. (o.limit.0 + 1) * k * (most_grains_of o + 1) ≤ length c.args.table.now) is a.table));
+        room = subst (λ k. (o.limit.0 + 1) * c.nodes-n.result * (c.most_grains-top.result + 1) ≤ k) (sym c.fill.auto.table) (subst (λ t. (o.limit.0 + 1) * c.nodes-n.result * (t + 1) ≤ length c.args.table.now) top (subst (λ k. (o.limit.0 + 1) * k * (most_grains_of o + 1) ≤ length c.args.table.now) is a.table));
       };
-      long = first_long (c.most-grains-top.result + 1) c.args.slots.now c.if-slots-top.false;
+      long = first_long (c.most_grains-top.result + 1) c.args.slots.now c.if-slots-top.false;
     }
 
 pub returns : goal.returns
@@ -97,9 +97,9 @@ returns g c =
     let sound = g.M.Map.sound c.args.map.now in
     let o = c.args.order in
     let room = room_of c.args.dist.now c.args.spread.now c.args.table.now in
-    let none = granted (order_denial net o room) tt tt c.in-ok-check-order.ensures in
-    let count = c.count-held.result in
+    let none = granted (order_denial net o room) tt tt c.in_ok-check_order.ensures in
+    let count = c.count_held.result in
     record {
-      call = front_returned net alg lawful sound o room c.nodes-n.result c.most-grains-top.result c.fill.new.table c.args.slots.now c.gather.new.slots count none c.most-grains-top.ensures c.if-slots-top.false c.fill.ensures c.gather.ensures c.gather.auto.slots c.count-held.ensures;
+      call = front_returned net alg lawful sound o room c.nodes-n.result c.most_grains-top.result c.fill.new.table c.args.slots.now c.gather.new.slots count none c.most_grains-top.ensures c.if-slots-top.false c.fill.ensures c.gather.ensures c.gather.auto.slots c.count_held.ensures;
       slices = λ d e. granted_only count d e;
     }

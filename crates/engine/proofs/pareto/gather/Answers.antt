@@ -1,4 +1,4 @@
-use Rattle.std.proofs.Common.{◌+◌, ◌-◌, ◌∙◌, arith}
+use Rattle.std.proofs.Common.{◌+◌, ◌∙◌, arith}
 use Rattle.engine.specs.Cells.{best_of}
 use Rattle.engine.proofs.FrontGathered.{gather_first, gather_all}
 use Rattle.engine.proofs.pareto.gather.Goals as goal
@@ -6,8 +6,8 @@ use Rattle.engine.proofs.pareto.gather.Goals as goal
 pub loop-d-init : goal.loop-d-init
 loop-d-init g c = gather_first g.V.Ranking.good (λ m e. best_of c.args.cells.n c.args.cells.top c.args.cells.table.now m e c.args.cells.source) c.args.cells.limit (c.args.cells.top + 1) c.args.slots.now c.blank.new.table (c.blank.auto.table ∙ c.requires.long) c.blank.ensures
 
-pub offer-column-requires : goal.offer-column-requires
-offer-column-requires g c = record {
+pub offer_column-requires : goal.offer_column-requires
+offer_column-requires g c = record {
   cells = c.requires.cells;
   grains = omega (arith, c.loop-d-test.true);
   long = c.loop-d.auto.slots ∙ c.blank.auto.table ∙ c.requires.long;

@@ -1,14 +1,14 @@
-use Rattle.std.proofs.Common.{ℕ, ◌+◌, ◌-◌, length, sym, subst, arith}
+use Rattle.std.proofs.Common.{ℕ, ◌+◌, length, sym, subst, arith}
 use Rattle.engine.specs.Cells.{best_of}
 use Rattle.engine.specs.Chosen.{Passed}
 use Rattle.engine.specs.Offers.{Gathered}
 use Rattle.engine.proofs.CellPlaces.{room_slot}
 use Rattle.engine.proofs.FrontGathered.{gather_none, gather_some, gather_next}
 use Rattle.engine.proofs.pareto.offer_column.Goals as goal
-use Rattle.engine.proofs.pareto.offer_column.Goals.{in-Some, in-default}
+use Rattle.engine.proofs.pareto.offer_column.Goals.{in-Some, in_default}
 
-pub read-cell-requires : goal.read-cell-requires
-read-cell-requires g c = record {
+pub read_cell-requires : goal.read_cell-requires
+read_cell-requires g c = record {
   nodes = c.requires.cells.nodes;
   top = c.requires.cells.top_high;
   labels = omega (arith, c.loop-l-test.true, c.requires.cells.limit_high);
@@ -24,13 +24,13 @@ loop-l-preserved g c =
     let limit = c.args.cells.limit in
     let d = c.args.d in
     let l = c.loop-l.l in
-    elim c.match-read-cell.branch [
+    elim c.match-read_cell.branch [
       | in-Some w ↦
           subst (Gathered good best (Passed limit d (l + 1))) (sym w.slots-is)
           (gather_some good best limit d l w.in-Some.value c.loop-l.slots w.offer.new.slots w.offer.result (omega (arith, c.loop-l-test.true)) (sym w.in-Some.ensures) (omega (arith, c.requires.grains, c.requires.long, c.loop-l.auto.slots)) w.offer.ensures c.loop-l.invariant)
-      | in-default w ↦
+      | in_default w ↦
           subst (Gathered good best (Passed limit d (l + 1))) (sym w.slots-is)
-          (gather_none good best limit d l c.loop-l.slots (sym w.in-default.ensures) c.loop-l.invariant)
+          (gather_none good best limit d l c.loop-l.slots (sym w.in_default.ensures) c.loop-l.invariant)
     ]
 
 pub returns : goal.returns

@@ -8,17 +8,17 @@ use Rattle.engine.proofs.OrderAdmitted.{admitted}
 use Rattle.engine.proofs.QuoteAnswered.{quote_searched, searched_only, quote_denied, quote_cramped}
 use Rattle.engine.proofs.quoting.quote.Goals as goal
 
-pub returns-in-err-check-order : goal.returns-in-err-check-order
-returns-in-err-check-order g c =
+pub returns-in_err-check_order : goal.returns-in_err-check_order
+returns-in_err-check_order g c =
     let net = g.M.Map.meaning c.args.map.now in
     let alg = algebra g.V.Ranking.good g.V.Tariff.joining in
     let o = c.args.order in
     let room = room_of c.args.dist.now c.args.spread.now c.args.table.now in
-    let x = c.in-err-check-order.field-0.0 in
-    let out = err_from_is_err_and c.from-residual.result c.from-residual.ensures.1 in
-    let d = denied (order_denial net o room) x tt c.in-err-check-order.ensures in
+    let x = c.in_err-check_order.field-0.0 in
+    let out = err_from_is_err_and c.from_residual.result c.from_residual.ensures.1 in
+    let d = denied (order_denial net o room) x tt c.in_err-check_order.ensures in
     record {
-      call = quote_denied net alg o room c.args.list.now c.from-residual.result x d (out.1 ∙ ap Err out.2);
+      call = quote_denied net alg o room c.args.list.now c.from_residual.result x d (out.1 ∙ ap Err out.2);
       slices = λ y is other. refl;
     }
 
@@ -28,7 +28,7 @@ returns-then-list-order g c =
     let alg = algebra g.V.Ranking.good g.V.Tariff.joining in
     let o = c.args.order in
     let room = room_of c.args.dist.now c.args.spread.now c.args.table.now in
-    let none = granted (order_denial net o room) tt tt c.in-ok-check-order.ensures in
+    let none = granted (order_denial net o room) tt tt c.in_ok-check_order.ensures in
     record {
       call = quote_cramped net alg o room c.args.list.now _ none c.if-list-order.true (ap Err c.of_order.ensures);
       slices = λ y is other. refl;
@@ -38,7 +38,7 @@ pub route-requires : goal.route-requires
 route-requires g c =
     let net = g.M.Map.meaning c.args.map.now in
     let room = room_of c.args.dist.now c.args.spread.now c.args.table.now in
-    let a = admitted net c.args.order room (granted (order_denial net c.args.order room) tt tt c.in-ok-check-order.ensures) in
+    let a = admitted net c.args.order room (granted (order_denial net c.args.order room) tt tt c.in_ok-check_order.ensures) in
     let square : c.nodes-n.result * c.nodes-n.result ≡ net.nodes * net.nodes = ap (λ k. k * k) c.nodes-n.ensures in
     record {
       nodes = c.nodes-n.ensures;
@@ -51,7 +51,7 @@ answer-requires g c =
     let net = g.M.Map.meaning c.args.map.now in
     let o = c.args.order in
     let room = room_of c.args.dist.now c.args.spread.now c.args.table.now in
-    let a = admitted net o room (granted (order_denial net o room) tt tt c.in-ok-check-order.ensures) in
+    let a = admitted net o room (granted (order_denial net o room) tt tt c.in_ok-check_order.ensures) in
     let is = sym c.nodes-n.ensures in
     let top = sym c.most_grains.ensures in
     record {
@@ -66,11 +66,11 @@ answer-requires g c =
       space = c.if-list-order.false;
     }
 
-pub most-grains-requires : goal.most-grains-requires
-most-grains-requires g c =
+pub most_grains-requires : goal.most_grains-requires
+most_grains-requires g c =
     let net = g.M.Map.meaning c.args.map.now in
     let room = room_of c.args.dist.now c.args.spread.now c.args.table.now in
-    (admitted net c.args.order room (granted (order_denial net c.args.order room) tt tt c.in-ok-check-order.ensures)).grain_low
+    (admitted net c.args.order room (granted (order_denial net c.args.order room) tt tt c.in_ok-check_order.ensures)).grain_low
 
 pub returns : goal.returns
 returns g c =
@@ -79,7 +79,7 @@ returns g c =
     let lawful = laws g.V.Ranking.good g.V.Tariff.joining g.met.V.Ranking.ranks g.met.V.Tariff.joins in
     let o = c.args.order in
     let room = room_of c.args.dist.now c.args.spread.now c.args.table.now in
-    let none = granted (order_denial net o room) tt tt c.in-ok-check-order.ensures in
+    let none = granted (order_denial net o room) tt tt c.in_ok-check_order.ensures in
     record {
       call = quote_searched net alg o room c.args.list.now c.answer.new.list c.answer.result lawful none c.if-list-order.false c.answer.ensures;
       slices = searched_only net alg o room c.args.list.now c.answer.new.list c.answer.result c.answer.ensures;

@@ -24,8 +24,8 @@ seek-f-requires g c = record {
   some = list_some (g.M.Map.meaning c.args.map.now) (algebra g.V.Ranking.good g.V.Tariff.joining) (laws g.V.Ranking.good g.V.Tariff.joining g.met.V.Ranking.ranks g.met.V.Tariff.joins) (g.M.Map.sound c.args.map.now) c.args.search.grain.0 c.args.search.top c.args.choice.value (best_of c.args.search.n c.args.search.top c.args.table.now) c.args.choice.grains c.args.source c.args.choice.entries c.loop-i.prefix c.loop-i.d c.loop-i.v c.loop-i.i c.loop-i.delay c.args.list.now c.loop-i.list c.loop-i.invariant c.loop-i-test.true c.requires.filled.0 c.requires.filled.1;
 }
 
-pub overflow-add-delay : goal.overflow-add-delay
-overflow-add-delay g c = fits_grains c.loop-i.delay c.seek-f.result.leg.delay.0 (omega (arith, c.loop-i.invariant.bound, c.loop-i-test.true, c.requires.labels)) c.seek-f.ensures.delay
+pub overflow_add-delay : goal.overflow_add-delay
+overflow_add-delay g c = fits_grains c.loop-i.delay c.seek-f.result.leg.delay.0 (omega (arith, c.loop-i.invariant.bound, c.loop-i-test.true, c.requires.labels)) c.seek-f.ensures.delay
 
 pub loop-i-preserved : goal.loop-i-preserved
 loop-i-preserved g c =

@@ -13,8 +13,8 @@ returns-in-Quote g c =
     let net = g.M.Map.meaning c.args.map.now in
     let room = room_of c.args.dist.now c.args.spread.now c.args.table.now in
     let step = c.args.step.now in
-    let was = c.as-mut-slice.ensures.value in
-    let kept : length c.quote.new.list ≡ step.list.len = c.quote.auto.list ∙ c.as-mut-slice.ensures.len in
+    let was = c.as_mut_slice.ensures.value in
+    let kept : length c.quote.new.list ≡ step.list.len = c.quote.auto.list ∙ c.as_mut_slice.ensures.len in
     let called = subst (λ b. QuoteCall net alg c.in-Quote.order room b c.quote.new.list c.quote.result) was c.quote.ensures.call in
     let told = subst (λ a. QuoteCall net alg c.in-Quote.order room (vec_items step.list) a c.quote.result) (sym (with_items_is step.list c.quote.new.list kept)) called in
     record {
@@ -29,8 +29,8 @@ returns-in-Front g c =
     let net = g.M.Map.meaning c.args.map.now in
     let room = room_of c.args.dist.now c.args.spread.now c.args.table.now in
     let step = c.args.step.now in
-    let was = c.as-mut-slice-in-Front.ensures.value in
-    let kept : length c.front.new.slots ≡ step.slots.len = c.front.auto.slots ∙ c.as-mut-slice-in-Front.ensures.len in
+    let was = c.as_mut_slice-in-Front.ensures.value in
+    let kept : length c.front.new.slots ≡ step.slots.len = c.front.auto.slots ∙ c.as_mut_slice-in-Front.ensures.len in
     let called = subst (λ b. FrontCall net alg c.in-Front.order room b c.front.new.slots c.front.result) was c.front.ensures.call in
     let told = subst (λ a. FrontCall net alg c.in-Front.order room (vec_items step.slots) a c.front.result) (sym (with_items_is step.slots c.front.new.slots kept)) called in
     record {

@@ -3,7 +3,7 @@ use Rattle.std.proofs.lemmas.List.{get_or_read}
 use Rattle.segments.specs.Algebra.{algebra}
 use Rattle.engine.proofs.SlotsImproved.{ImprovedTo, improve_step, improve_none, improve_keep, improve_take}
 use Rattle.engine.proofs.table.improve.Goals as goal
-use Rattle.engine.proofs.table.improve.Goals.{in-Some, in-default}
+use Rattle.engine.proofs.table.improve.Goals.{in-Some, in_default}
 
 pub loop-d-init : goal.loop-d-init
 loop-d-init g c = improve_none (algebra g.V.Ranking.good g.V.Tariff.joining) c.args.from c.args.to c.args.value c.args.table.now
@@ -25,8 +25,8 @@ loop-d-preserved g c =
           subst (ImprovedTo alg from to value (d + 1) before) (sym w.table-is)
           (improve_step alg from to count value before xs w.put.new.slots d c.requires.apart c.loop-d-test.true c.loop-d.invariant
           (w.put.ensures.here ∙ improve_take alg (get_or xs (to + d) None) (get_or xs (from + d) None) value w.in-Some.x w.join.result (read ∙ w.in-Some.is) w.join.ensures) w.put.ensures.other)
-      | in-default w ↦
+      | in_default w ↦
           subst (ImprovedTo alg from to value (d + 1) before) (sym w.table-is)
           (improve_step alg from to count value before xs xs d c.requires.apart c.loop-d-test.true c.loop-d.invariant
-          (improve_keep alg (get_or xs (to + d) None) (get_or xs (from + d) None) value (read ∙ w.in-default.is)) (λ j h. refl))
+          (improve_keep alg (get_or xs (to + d) None) (get_or xs (from + d) None) value (read ∙ w.in_default.is)) (λ j h. refl))
     ]

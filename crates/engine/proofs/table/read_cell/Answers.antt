@@ -1,12 +1,12 @@
-use Rattle.std.proofs.Common.{◌-◌, ◌<◌, length, get_or, None, ap, ◌∙◌, arith}
+use Rattle.std.proofs.Common.{◌<◌, length, get_or, None, ap, ◌∙◌, arith}
 use Rattle.std.proofs.lemmas.List.{get_or_read}
 use Rattle.engine.proofs.table.read_cell.Goals as goal
 
 pub bounds-table-at : goal.bounds-table-at
 bounds-table-at g c = omega (arith, c.place-at.ensures, c.requires.room)
 
-pub offset-bounds-table-at : goal.offset-bounds-table-at
-offset-bounds-table-at g c = omega (arith, c.place-at.ensures, c.requires.room)
+pub offset_bounds-table-at : goal.offset_bounds-table-at
+offset_bounds-table-at g c = omega (arith, c.place-at.ensures, c.requires.room)
 
 pub returns : goal.returns
 returns g c =
