@@ -1,4 +1,6 @@
 // Segment lists by plain enumeration, written apart from the engine so that the two can be held against each other.
+#![tactic(auto)]
+
 pub mod answers;
 pub mod lists;
 pub mod routes;

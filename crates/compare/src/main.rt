@@ -1,4 +1,6 @@
 // Holds the engine to plain enumeration on many small random networks, and to two examples.
+#![tactic(auto)]
+
 mod agreement;
 mod cases;
 mod random;

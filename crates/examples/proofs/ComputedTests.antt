@@ -1,5 +1,5 @@
 -- Tests that are computed: each gives the proof of what it tests where it passes.
-use Rattle.std.proofs.Common.{◌≡◌, ℕ, zero, suc, ◌<◌, ◌≤◌, Bool, true, false, T, eqb, leb, ◌⊎◌, List, [], ◌∷◌, get_or, is_some, Some, None, Option, sym, refl, subst, ⊎_elim, arith, le→leb, eqb→eq, leb→le}
+use Rattle.std.proofs.Common.{◌≡◌, ℕ, zero, suc, ◌<◌, ◌≤◌, Bool, true, false, T, eqb, leb, List, [], ◌∷◌, get_or, is_some, Some, None, Option, sym, refl, subst, ⊎_elim, arith, le→leb, eqb→eq, leb→le}
 use lib.Dec.{eqb_refl}
 use Rattle.std.proofs.lemmas.Bool.{cases_eq}
 use Rattle.segments.proofs.OptionValues.{some_same, none_some}

@@ -1,3 +1,5 @@
+#![tactic(auto)]
+
 // Examples of maps: each refusal on both sides of its limit, changes, and round trips.
 #[cfg(test)]
 mod images;

@@ -1,3 +1,5 @@
+#![tactic(auto)]
+
 // Examples of walked segment lists: their figures, and each refusal on both sides of its limit.
 #[cfg(test)]
 mod nets;

@@ -1,5 +1,7 @@
 // Reads map bytes on standard input and walks the segment list of its arguments, SOURCE GRAIN CODE...
 // Prints END VALUE GRAINS MICROSECONDS COUNT under the cost tariff, or the line of the refusal.
+#![tactic(auto)]
+
 mod arguments;
 mod reporting;
 #[cfg(test)]
