@@ -1,7 +1,7 @@
 // The questions that a quote and a front both ask of an order.
 ghost use Rattle.std.specs.Prelude.{◌≡◌, ◌+◌, ◌*◌, ◌≤◌, ◌&&◌, nat_le};
 ghost use Rattle.questions.specs.Asking.{reply};
-ghost use Rattle.engine.specs.Calls.{order_denial as orderDenial};
+ghost use Rattle.engine.specs.Calls.{order_denial};
 ghost use Rattle.engine.specs.Fronts.{most_grains_of};
 
 use netmap::{Map, Microseconds};
@@ -40,7 +40,7 @@ fn has_room(n: usize, limit: usize, top: usize, room: Room) -> bool
 
 // Asks of the nodes, the label limit, the grain, the bound and the working slices.
 pub(crate) fn check_order<M: Map>(map: &M, order: Order, room: Room) -> Result<(), Denial>
-    ensures { result ≡ reply (orderDenial (M.Map.meaning map.now) order room) tt }
+    ensures { result ≡ reply (order_denial (M.meaning map.now) order room) tt }
 {
     let n = map.nodes();
     if order.source as usize >= n || order.target as usize >= n {

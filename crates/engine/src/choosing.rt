@@ -18,7 +18,7 @@ pub(crate) struct Choice<V> {
 
 // The better of two cells; the first stays at a tie.
 fn lead<V: Tariff>(best: Option<Choice<V>>, next: Choice<V>) -> Choice<V>
-    ensures { result ≡ lead_of (algebra V.Ranking.good V.Tariff.joining) best next }
+    ensures { result ≡ lead_of (algebra V.good V.joining) best next }
 {
     if let Some(b) = best {
         if b.value.as_good(next.value) {
@@ -36,8 +36,8 @@ fn choose_at<V: Tariff>(
 ) -> Option<Choice<V>>
     requires cells { HasCells cells.n cells.top cells.limit cells.source (length cells.table.now) }
     requires grains { d ≤ cells.top }
-    requires lead { LeadOf (algebra V.Ranking.good V.Tariff.joining) (λ m e. best_of cells.n cells.top cells.table.now m e cells.source) (Passed cells.limit d 0) best }
-    ensures { LeadOf (algebra V.Ranking.good V.Tariff.joining) (λ m e. best_of cells.entry.n cells.entry.top cells.entry.table.now m e cells.entry.source) (Passed cells.entry.limit (d + 1) 0) result }
+    requires lead { LeadOf (algebra V.good V.joining) (λ m e. best_of cells.n cells.top cells.table.now m e cells.source) (Passed cells.limit d 0) best }
+    ensures { LeadOf (algebra V.good V.joining) (λ m e. best_of cells.entry.n cells.entry.top cells.entry.table.now m e cells.entry.source) (Passed cells.entry.limit (d + 1) 0) result }
 {
     let mut first = best;
     for l in 0..cells.limit + 1 {
@@ -58,7 +58,7 @@ fn choose_at<V: Tariff>(
 // The cell at the source of the best value, then of the fewest grains, then of the fewest entries.
 pub(crate) fn choose<V: Tariff>(cells: SourceCells<V>) -> Option<Choice<V>>
     requires cells { HasCells cells.n cells.top cells.limit cells.source (length cells.table.now) }
-    ensures { LeadOf (algebra V.Ranking.good V.Tariff.joining) (λ m e. best_of cells.entry.n cells.entry.top cells.entry.table.now m e cells.entry.source) (Whole cells.entry.limit cells.entry.top) result }
+    ensures { LeadOf (algebra V.good V.joining) (λ m e. best_of cells.entry.n cells.entry.top cells.entry.table.now m e cells.entry.source) (Whole cells.entry.limit cells.entry.top) result }
 {
     let mut best = None;
     for d in 0..cells.top + 1 {

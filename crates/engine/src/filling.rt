@@ -23,14 +23,14 @@ fn fill_row<M: Map, V: Tariff>(
     v: usize,
     table: &mut [Option<V>],
 )
-    requires routed { Routed (M.Map.meaning map.now) (algebra V.Ranking.good V.Tariff.joining) search.n search.dist.now search.spread.now }
+    requires routed { Routed (M.meaning map.now) (algebra V.good V.joining) search.n search.dist.now search.spread.now }
     requires grain { 1 ≤ search.grain.0 }
     requires top { search.top ≤ 1000 }
     requires labels { l < 10 }
     requires node { v < search.n }
     requires room { slot search.n search.top (l + 1) v search.top < length table.old }
     ensures kept { Kept (slot search.entry.n search.entry.top (l + 1) v 0) table.old table.new }
-    ensures cells { (target : ℕ) → Row (M.Map.meaning map.now) (algebra V.Ranking.good V.Tariff.joining) search.entry.grain.0 target search.entry.top l (best_of search.entry.n search.entry.top table.old l) → (d : ℕ) → d ≤ search.entry.top → Cell (M.Map.meaning map.now) (algebra V.Ranking.good V.Tariff.joining) search.entry.grain.0 target (l + 1) d v (best_of search.entry.n search.entry.top table.new (l + 1) d v) }
+    ensures cells { (target : ℕ) → Row (M.meaning map.now) (algebra V.good V.joining) search.entry.grain.0 target search.entry.top l (best_of search.entry.n search.entry.top table.old l) → (d : ℕ) → d ≤ search.entry.top → Cell (M.meaning map.now) (algebra V.good V.joining) search.entry.grain.0 target (l + 1) d v (best_of search.entry.n search.entry.top table.new (l + 1) d v) }
 {
     let row = place(search.n, search.top, l + 1, v, 0);
     blank(table, row, search.top + 1);
@@ -52,12 +52,12 @@ fn fill_row<M: Map, V: Tariff>(
 
 // Fills the rows of l + 1 entries from those of l entries.
 fn fill_level<M: Map, V: Tariff>(map: &M, search: Search<V>, l: usize, table: &mut [Option<V>])
-    requires routed { Routed (M.Map.meaning map.now) (algebra V.Ranking.good V.Tariff.joining) search.n search.dist.now search.spread.now }
+    requires routed { Routed (M.meaning map.now) (algebra V.good V.joining) search.n search.dist.now search.spread.now }
     requires grain { 1 ≤ search.grain.0 }
     requires top { search.top ≤ 1000 }
     requires labels { l < 10 }
     requires room { (l + 2) * search.n * (search.top + 1) ≤ length table.old }
-    ensures { LevelTo (M.Map.meaning map.now) (algebra V.Ranking.good V.Tariff.joining) search.entry.grain.0 search.entry.n search.entry.top l search.entry.n table.old table.new }
+    ensures { LevelTo (M.meaning map.now) (algebra V.good V.joining) search.entry.grain.0 search.entry.n search.entry.top l search.entry.n table.old table.new }
 {
     for v in 0..search.n {
         fill_row(map, search, l, v, table);
@@ -70,7 +70,7 @@ fn fill_first<V: Tariff>(n: usize, top: usize, target: usize, table: &mut [Optio
     requires top { top ≤ 1000 }
     requires node { target < n }
     requires room { n * (top + 1) ≤ length table.old }
-    ensures { (net : Net) (grain : ℕ) → n ≡ net.nodes → Row net (algebra V.Ranking.good V.Tariff.joining) grain target top 0 (best_of n top table.new 0) }
+    ensures { (net : Net) (grain : ℕ) → n ≡ net.nodes → Row net (algebra V.good V.joining) grain target top 0 (best_of n top table.new 0) }
 {
     blank(table, 0, n * (top + 1));
     let at = place(n, top, 0, target, 0);
@@ -85,13 +85,13 @@ pub(crate) fn fill<M: Map, V: Tariff>(
     target: usize,
     table: &mut [Option<V>],
 )
-    requires routed { Routed (M.Map.meaning map.now) (algebra V.Ranking.good V.Tariff.joining) search.n search.dist.now search.spread.now }
+    requires routed { Routed (M.meaning map.now) (algebra V.good V.joining) search.n search.dist.now search.spread.now }
     requires grain { 1 ≤ search.grain.0 }
     requires top { search.top ≤ 1000 }
     requires labels { limit ≤ 10 }
     requires node { target < search.n }
     requires room { (limit + 1) * search.n * (search.top + 1) ≤ length table.old }
-    ensures { FilledTo (M.Map.meaning map.now) (algebra V.Ranking.good V.Tariff.joining) search.entry.grain.0 target search.entry.n search.entry.top limit table.new }
+    ensures { FilledTo (M.meaning map.now) (algebra V.good V.joining) search.entry.grain.0 target search.entry.n search.entry.top limit table.new }
 {
     fill_first(search.n, search.top, target, table);
     for l in 0..limit {

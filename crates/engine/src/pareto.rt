@@ -4,7 +4,7 @@ ghost use Rattle.segments.specs.Algebra.{algebra};
 ghost use Rattle.engine.specs.Calls.{room_of, working, Untouched, FrontCall};
 ghost use Rattle.engine.specs.Cells.{best_of, HasCells};
 ghost use Rattle.engine.specs.Chosen.{Passed, Whole};
-ghost use Rattle.engine.specs.Fronts.{held as heldCount};
+ghost use Rattle.engine.specs.Fronts.{held as held_count};
 ghost use Rattle.engine.specs.Offers.{Gathered};
 
 use crate::checks::{Room, check_order, most_grains};
@@ -23,8 +23,8 @@ fn offer_column<V: Ranking>(cells: SourceCells<V>, d: usize, slots: &mut [Option
     requires cells { HasCells cells.n cells.top cells.limit cells.source (length cells.table.now) }
     requires grains { d ≤ cells.top }
     requires long { length slots.old ≡ cells.top + 1 }
-    requires gathered { Gathered V.Ranking.good (λ m e. best_of cells.n cells.top cells.table.now m e cells.source) (Passed cells.limit d 0) slots.old }
-    ensures { Gathered V.Ranking.good (λ m e. best_of cells.entry.n cells.entry.top cells.entry.table.now m e cells.entry.source) (Passed cells.entry.limit (d + 1) 0) slots.new }
+    requires gathered { Gathered V.good (λ m e. best_of cells.n cells.top cells.table.now m e cells.source) (Passed cells.limit d 0) slots.old }
+    ensures { Gathered V.good (λ m e. best_of cells.entry.n cells.entry.top cells.entry.table.now m e cells.entry.source) (Passed cells.entry.limit (d + 1) 0) slots.new }
 {
     for l in 0..cells.limit + 1 {
         if let Some(value) = read_cell(cells.table, cells.n, cells.top, l, cells.source, d) {
@@ -37,7 +37,7 @@ fn offer_column<V: Ranking>(cells: SourceCells<V>, d: usize, slots: &mut [Option
 fn gather<V: Ranking>(cells: SourceCells<V>, slots: &mut [Option<V>])
     requires cells { HasCells cells.n cells.top cells.limit cells.source (length cells.table.now) }
     requires long { length slots.old ≡ cells.top + 1 }
-    ensures { Gathered V.Ranking.good (λ m e. best_of cells.entry.n cells.entry.top cells.entry.table.now m e cells.entry.source) (Whole cells.entry.limit cells.entry.top) slots.new }
+    ensures { Gathered V.good (λ m e. best_of cells.entry.n cells.entry.top cells.entry.table.now m e cells.entry.source) (Whole cells.entry.limit cells.entry.top) slots.new }
 {
     blank(slots, 0, cells.top + 1);
     for d in 0..cells.top + 1 {
@@ -47,7 +47,7 @@ fn gather<V: Ranking>(cells: SourceCells<V>, slots: &mut [Option<V>])
 
 // How many slots hold a value.
 fn count_held<V: Ranking>(slots: &[Option<V>]) -> usize
-    ensures { result ≡ heldCount slots.now }
+    ensures { result ≡ held_count slots.now }
 {
     let mut count = 0;
     for i in 0..slots.len() {
@@ -68,7 +68,7 @@ pub fn front<M: Map, V: Tariff>(
     table: &mut [Option<V>],
     slots: &mut [Option<V>],
 ) -> Result<usize, Denial>
-    ensures call { FrontCall (M.Map.meaning map.now) (algebra V.Ranking.good V.Tariff.joining) order (room_of dist.old spread.old table.old) slots.old slots.new result }
+    ensures call { FrontCall (M.meaning map.now) (algebra V.good V.joining) order (room_of dist.old spread.old table.old) slots.old slots.new result }
     ensures slices { Untouched result (working dist.old spread.old table.old) (working dist.new spread.new table.new) }
 {
     let room = Room {

@@ -24,7 +24,7 @@ fn answer<M: Map, V: Tariff>(
     table: &mut [Option<V>],
     list: &mut [u16],
 ) -> Result<Figures<V>, Denial>
-    requires routed { Routed (M.Map.meaning map.now) (algebra V.Ranking.good V.Tariff.joining) search.n search.dist.now search.spread.now }
+    requires routed { Routed (M.meaning map.now) (algebra V.good V.joining) search.n search.dist.now search.spread.now }
     requires grain { search.grain ≡ order.grain }
     requires top { search.top ≡ most_grains_of order }
     requires ends { (order.source < search.n) × (order.target < search.n) }
@@ -33,7 +33,7 @@ fn answer<M: Map, V: Tariff>(
     requires few { search.top ≤ 1000 }
     requires room { (order.limit.0 + 1) * search.n * (search.top + 1) ≤ length table.old }
     requires space { order.limit.0 ≤ length list.old }
-    ensures { Searched (M.Map.meaning map.now) (algebra V.Ranking.good V.Tariff.joining) order list.old list.new result }
+    ensures { Searched (M.meaning map.now) (algebra V.good V.joining) order list.old list.new result }
 {
     let limit = order.limit.0 as usize;
     let source = order.source as usize;
@@ -69,7 +69,7 @@ pub fn quote<M: Map, V: Tariff>(
     table: &mut [Option<V>],
     list: &mut [u16],
 ) -> Result<Figures<V>, Denial>
-    ensures call { QuoteCall (M.Map.meaning map.now) (algebra V.Ranking.good V.Tariff.joining) order (room_of dist.old spread.old table.old) list.old list.new result }
+    ensures call { QuoteCall (M.meaning map.now) (algebra V.good V.joining) order (room_of dist.old spread.old table.old) list.old list.new result }
     ensures slices { UntouchedBefore result (working dist.old spread.old table.old) (working dist.new spread.new table.new) }
 {
     let room = Room {

@@ -41,14 +41,14 @@ fn try_code<M: Map, V: Tariff>(
     total: V,
     code: u16,
 ) -> Option<Found<V>>
-    requires routed { Routed (M.Map.meaning map.now) (algebra V.Ranking.good V.Tariff.joining) search.n search.dist.now search.spread.now }
+    requires routed { Routed (M.meaning map.now) (algebra V.good V.joining) search.n search.dist.now search.spread.now }
     requires grain { 1 ≤ search.grain.0 }
     requires top { search.top ≤ 1000 }
     requires labels { prefix.left ≤ 10 }
     requires node { prefix.end < search.n }
     requires grains { prefix.grains ≤ search.top }
     requires room { (prefix.left + 1) * search.n * (search.top + 1) ≤ length table.now }
-    ensures { TriedCode (M.Map.meaning map.now) (algebra V.Ranking.good V.Tariff.joining) search.entry.grain.0 total (best_of search.entry.n search.entry.top table.now prefix.left) prefix.value prefix.grains prefix.end code result }
+    ensures { TriedCode (M.meaning map.now) (algebra V.good V.joining) search.entry.grain.0 total (best_of search.entry.n search.entry.top table.now prefix.left) prefix.value prefix.grains prefix.end code result }
 {
     if let Some(leg) = entry(map, search.n, search.dist, search.spread, prefix.end, code) {
         let g = round_up(leg.delay, search.grain).0 as usize;
@@ -85,15 +85,15 @@ fn seek<M: Map, V: Tariff>(
     prefix: Prefix<V>,
     total: V,
 ) -> Found<V>
-    requires routed { Routed (M.Map.meaning map.now) (algebra V.Ranking.good V.Tariff.joining) search.n search.dist.now search.spread.now }
+    requires routed { Routed (M.meaning map.now) (algebra V.good V.joining) search.n search.dist.now search.spread.now }
     requires grain { 1 ≤ search.grain.0 }
     requires top { search.top ≤ 1000 }
     requires labels { prefix.left ≤ 10 }
     requires node { prefix.end < search.n }
     requires grains { prefix.grains ≤ search.top }
     requires room { (prefix.left + 1) * search.n * (search.top + 1) ≤ length table.now }
-    requires some { (c : ℕ) × Attains (M.Map.meaning map.now) (algebra V.Ranking.good V.Tariff.joining) search.grain.0 total (best_of search.n search.top table.now prefix.left) prefix.value prefix.grains prefix.end c }
-    ensures { FoundAt (M.Map.meaning map.now) (algebra V.Ranking.good V.Tariff.joining) search.entry.grain.0 total (best_of search.entry.n search.entry.top table.now prefix.left) prefix.value prefix.grains prefix.end result }
+    requires some { (c : ℕ) × Attains (M.meaning map.now) (algebra V.good V.joining) search.grain.0 total (best_of search.n search.top table.now prefix.left) prefix.value prefix.grains prefix.end c }
+    ensures { FoundAt (M.meaning map.now) (algebra V.good V.joining) search.entry.grain.0 total (best_of search.entry.n search.entry.top table.now prefix.left) prefix.value prefix.grains prefix.end result }
 {
     for code in 0..CODES {
         if let Some(f) = try_code(map, search, table, prefix, total, code) {
@@ -112,7 +112,7 @@ pub(crate) fn rebuild<M: Map, V: Tariff>(
     choice: Choice<V>,
     list: &mut [u16],
 ) -> u32
-    requires routed { Routed (M.Map.meaning map.now) (algebra V.Ranking.good V.Tariff.joining) search.n search.dist.now search.spread.now }
+    requires routed { Routed (M.meaning map.now) (algebra V.good V.joining) search.n search.dist.now search.spread.now }
     requires grain { 1 ≤ search.grain.0 }
     requires top { search.top ≤ 1000 }
     requires labels { choice.entries ≤ 10 }
@@ -120,9 +120,9 @@ pub(crate) fn rebuild<M: Map, V: Tariff>(
     requires few { choice.grains ≤ search.top }
     requires room { (choice.entries + 1) * search.n * (search.top + 1) ≤ length table.now }
     requires space { choice.entries ≤ length list.old }
-    requires filled { (target : ℕ) × FilledTo (M.Map.meaning map.now) (algebra V.Ranking.good V.Tariff.joining) search.grain.0 target search.n search.top choice.entries table.now }
+    requires filled { (target : ℕ) × FilledTo (M.meaning map.now) (algebra V.good V.joining) search.grain.0 target search.n search.top choice.entries table.now }
     requires cell { best_of search.n search.top table.now choice.entries choice.grains source ≡ Some choice.value }
-    ensures { Written (M.Map.meaning map.now) (algebra V.Ranking.good V.Tariff.joining) search.entry.grain.0 choice.value (best_of search.entry.n search.entry.top table.now) choice.grains source choice.entries result list.old list.new }
+    ensures { Written (M.meaning map.now) (algebra V.good V.joining) search.entry.grain.0 choice.value (best_of search.entry.n search.entry.top table.now) choice.grains source choice.entries result list.old list.new }
 {
     let mut v = source;
     let mut d = choice.grains;

@@ -45,8 +45,8 @@ fn perform<M: Map, V: Tariff>(
     table: &mut [Option<V>],
 )
     ensures kept { step.new.call ≡ step.old.call }
-    ensures answers { Answers (algebra V.Ranking.good V.Tariff.joining) (room_of dist.old spread.old table.old) (M.Map.meaning map.old) step.old.call step.old step.new }
-    ensures leaves { M.Map.meaning map.new ≡ after (M.Map.meaning map.old) step.old.call }
+    ensures answers { Answers (algebra V.good V.joining) (room_of dist.old spread.old table.old) (M.meaning map.old) step.old.call step.old step.new }
+    ensures leaves { M.meaning map.new ≡ after (M.meaning map.old) step.old.call }
 {
     match step.call {
         Call::Put(place, link) => {
@@ -86,7 +86,7 @@ pub fn run<M: Map, V: Tariff>(
     spread: &mut [Spread<V>],
     table: &mut [Option<V>],
 )
-    ensures { Runs (algebra V.Ranking.good V.Tariff.joining) (room_of dist.old spread.old table.old) (M.Map.meaning map.old) steps.old steps.new (M.Map.meaning map.new) }
+    ensures { Runs (algebra V.good V.joining) (room_of dist.old spread.old table.old) (M.meaning map.old) steps.old steps.new (M.meaning map.new) }
 {
     for s in steps.iter_mut() {
         perform(map, s, dist, spread, table);

@@ -8,7 +8,7 @@ use tariff::{Ranking, Tariff};
 // Puts a value into a slot unless what it holds is as good.
 pub(crate) fn put<V: Tariff>(slots: &mut [Option<V>], i: usize, value: V)
     requires { i < length slots.old }
-    ensures here { slice_index_or slots.new i None ≡ better_of (algebra V.Ranking.good V.Tariff.joining) (slice_index_or slots.old i None) value }
+    ensures here { slice_index_or slots.new i None ≡ better_of (algebra V.good V.joining) (slice_index_or slots.old i None) value }
     ensures other { (j : ℕ) → (j ≢ i) → slice_index_or slots.new j None ≡ slice_index_or slots.old j None }
 {
     let held = slots[i];
@@ -30,7 +30,7 @@ pub(crate) fn improve<V: Tariff>(
 )
     requires apart { from + count ≤ to }
     requires inside { to + count ≤ length table.old }
-    ensures { Improved (algebra V.Ranking.good V.Tariff.joining) from to count value table.old table.new }
+    ensures { Improved (algebra V.good V.joining) from to count value table.old table.new }
 {
     for d in 0..count {
         let held = table[from + d];

@@ -6,14 +6,14 @@ use tariff::Tariff;
 
 // A quote has one reply and leaves one content of the list space.
 pub fn quotes_are_determined<V: Tariff>() -> u8
-    ensures { QuotesDetermined (algebra V.Ranking.good V.Tariff.joining) }
+    ensures { QuotesDetermined (algebra V.good V.joining) }
 {
     0
 }
 
 // A front has one reply and leaves one content of its slots.
 pub fn fronts_are_determined<V: Tariff>() -> u8
-    ensures { FrontsDetermined (algebra V.Ranking.good V.Tariff.joining) }
+    ensures { FrontsDetermined (algebra V.good V.joining) }
 {
     0
 }

@@ -14,7 +14,7 @@ pub mod theorems;
 // Opens the keeper: no slot holds a pair.
 pub fn empty_slots<V: Ranking>(slots: &mut [Option<V>])
     ensures empty { (d : ℕ) → slice_index_or slots.new d None ≡ None }
-    ensures front { Front V.Ranking.good (Accepted []) slots.new }
+    ensures front { Front V.good (Accepted []) slots.new }
 {
     for slot in slots.iter_mut() {
         *slot = None;
@@ -24,8 +24,8 @@ pub fn empty_slots<V: Ranking>(slots: &mut [Option<V>])
 // Is a slot of at most d grains as good as the value?
 fn beaten<V: Ranking>(slots: &[Option<V>], d: usize, value: V) -> bool
     requires { d < length slots.now }
-    ensures yes { result ≡ true → Beaten V.Ranking.good (InSlot slots.now) d value }
-    ensures none { result ≡ false → Beaten V.Ranking.good (InSlot slots.now) d value → ⊥ }
+    ensures yes { result ≡ true → Beaten V.good (InSlot slots.now) d value }
+    ensures none { result ≡ false → Beaten V.good (InSlot slots.now) d value → ⊥ }
 {
     for e in 0..d + 1 {
         let held = slots[e];
@@ -40,7 +40,7 @@ fn beaten<V: Ranking>(slots: &[Option<V>], d: usize, value: V) -> bool
 
 // Empties each slot from a on whose value is no better.
 fn clear<V: Ranking>(slots: &mut [Option<V>], a: usize, value: V)
-    ensures { Cleared V.Ranking.good a (length slots.old) value slots.old slots.new }
+    ensures { Cleared V.good a (length slots.old) value slots.old slots.new }
 {
     for e in a..slots.len() {
         let held = slots[e];
@@ -54,7 +54,7 @@ fn clear<V: Ranking>(slots: &mut [Option<V>], a: usize, value: V)
 
 // Takes a pair into the front: it goes in unless a pair held is as good in both, and those that it beats go.
 pub fn offer<V: Ranking>(slots: &mut [Option<V>], grains: Grains, value: V) -> Result<(), Denial>
-    ensures { OfferCall V.Ranking.good grains.0 value slots.old slots.new result }
+    ensures { OfferCall V.good grains.0 value slots.old slots.new result }
 {
     let d = grains.0 as usize;
     if d >= slots.len() {

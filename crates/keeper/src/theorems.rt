@@ -5,14 +5,14 @@ use tariff::Ranking;
 
 // After any offers to empty slots they hold the front of the pairs that have a slot.
 pub fn keeper_holds_front<V: Ranking>() -> u8
-    ensures { KeeperHoldsFront V.Ranking.good }
+    ensures { KeeperHoldsFront V.good }
 {
     0
 }
 
 // As many slots hold one front of the accepted pairs at most.
 pub fn front_is_unique<V: Ranking>() -> u8
-    ensures { FrontUnique V.Ranking.good }
+    ensures { FrontUnique V.good }
 {
     0
 }

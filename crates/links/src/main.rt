@@ -1,22 +1,19 @@
 // Reads map bytes on standard input, and lists the map or says why it is refused.
 #![tactic(auto)]
 
-mod listing;
-#[cfg(test)]
-mod tests;
-
-use listing::report;
+use netmap::listing::report;
 use std::io::Read;
+use std::process::ExitCode;
 
 // One more than the longest image has, so that an input that is too long is seen to be.
 const MOST_BYTES: u64 = 3077;
 
-fn main(rt: HostRuntime) -> anyhow::Result<()> {
+fn main(rt: HostRuntime) -> ExitCode {
     match run(&rt) {
-        Ok(()) => Ok(()),
+        Ok(()) => ExitCode::SUCCESS,
         Err(error) => {
             let _ = eprintln!(rt; "links: {error}");
-            Err(error)
+            ExitCode::FAILURE
         }
     }
 }

@@ -9,3 +9,4 @@ pub mod Tables
 pub mod Writing
 pub mod RoundTrips
 pub mod Storing
+pub mod Texts

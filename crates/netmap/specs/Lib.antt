@@ -8,3 +8,4 @@ pub mod Soundness
 pub mod Spans
 pub mod Storing
 pub mod Tables
+pub mod Texts

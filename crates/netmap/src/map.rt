@@ -1,6 +1,6 @@
 // What every map answers, whatever it stands on.
 ghost use Rattle.std.specs.Prelude.{◌≡◌};
-ghost use Rattle.netmap.specs.Net.{Net, Sound, places as placeCount, link_at};
+ghost use Rattle.netmap.specs.Net.{Net, Sound, places as place_count, link_at};
 ghost use Rattle.netmap.specs.Changes.{put_reply, after_put, remove_reply, after_remove, read_reply};
 
 use crate::link::Link;
@@ -17,7 +17,7 @@ pub trait Map {
         ensures { result ≡ (meaning self.now).nodes };
 
     fn places(&self) -> usize
-        ensures { result ≡ placeCount (meaning self.now) };
+        ensures { result ≡ place_count (meaning self.now) };
 
     fn read(&self, place: usize) -> Result<Option<Link>, Denial>
         ensures { result ≡ read_reply (meaning self.now) place };

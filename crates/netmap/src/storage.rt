@@ -2,7 +2,7 @@
 ghost use Rattle.std.specs.Prelude.{◌≡◌, ◌≤◌, length, take, IfOk};
 ghost use Rattle.questions.specs.Asking.{reply, unless};
 ghost use Rattle.netmap.specs.Layout.{image_size};
-ghost use Rattle.netmap.specs.Net.{places as placeCount};
+ghost use Rattle.netmap.specs.Net.{places as place_count};
 ghost use Rattle.netmap.specs.Storing.{store_denial, stored, OpensAs};
 
 use crate::image::Image;
@@ -11,7 +11,7 @@ use questions::{Denial, Question};
 
 // Writes the image of a map at the front of the space, and says how long it is.
 pub fn store<M: Map>(map: &M, space: &mut [u8]) -> Result<usize, Denial>
-    ensures reply { result ≡ reply (store_denial (M.meaning map.now) (length space.old)) (image_size (placeCount (M.meaning map.now))) }
+    ensures reply { result ≡ reply (store_denial (M.meaning map.now) (length space.old)) (image_size (place_count (M.meaning map.now))) }
     ensures after { space.new ≡ unless (store_denial (M.meaning map.now) (length space.old)) (stored (M.meaning map.now) space.old) space.old }
     ensures reopens { IfOk result (λ size. OpensAs (take size space.new) (M.meaning map.now)) }
 {
@@ -25,9 +25,9 @@ pub fn store<M: Map>(map: &M, space: &mut [u8]) -> Result<usize, Denial>
 
 // Writes through an image that is not open, as a change of a place does.
 fn lay_out<M: Map>(map: &M, space: &mut [u8])
-    requires { image_size (placeCount (M.meaning map.now)) ≤ length space.old }
+    requires { image_size (place_count (M.meaning map.now)) ≤ length space.old }
     ensures after { space.new ≡ stored (M.meaning map.now) space.old }
-    ensures reopens { OpensAs (take (image_size (placeCount (M.meaning map.now))) space.new) (M.meaning map.now) }
+    ensures reopens { OpensAs (take (image_size (place_count (M.meaning map.now))) space.new) (M.meaning map.now) }
 {
     let places = map.places();
     let mut image = Image::over(space);

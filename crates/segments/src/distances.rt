@@ -76,11 +76,11 @@ fn sweep<V: Tariff>(n: usize, dist: &[u32], spread: &mut [Spread<V>], link: Link
 
 // One round: from the distances so far, those over one link more into the other slice.
 fn round<M: Map, V: Tariff>(map: &M, n: usize, dist: &[u32], spread: &mut [Spread<V>])
-    requires nodes { n ≡ (M.Map.meaning map.now).nodes }
+    requires nodes { n ≡ (M.meaning map.now).nodes }
     requires sized { n * n ≤ length dist.now }
     requires space { n * n ≤ length spread.old }
     requires known { AllKnown n dist.now }
-    ensures { Round (M.Map.meaning map.now) n dist.now (delays spread.new) }
+    ensures { Round (M.meaning map.now) n dist.now (delays spread.new) }
 {
     carry_over(n * n, dist, spread);
     for place in 0..map.places() {
@@ -116,11 +116,11 @@ pub(crate) fn find_distances<M: Map, V: Tariff>(
     dist: &mut [u32],
     spread: &mut [Spread<V>],
 ) -> usize
-    requires nodes { n ≡ (M.Map.meaning map.now).nodes }
+    requires nodes { n ≡ (M.meaning map.now).nodes }
     requires sized { n * n ≤ length dist.old }
     requires space { n * n ≤ length spread.old }
-    ensures measured { Measured (M.Map.meaning map.now) n dist.new }
-    ensures rounds { Rounds (M.Map.meaning map.now) result }
+    ensures measured { Measured (M.meaning map.now) n dist.new }
+    ensures rounds { Rounds (M.meaning map.now) result }
 {
     start_distances(n, dist);
     for k in 0..n {

@@ -3,7 +3,7 @@ ghost use Rattle.std.specs.Prelude.{◌≡◌, ◌*◌, ◌<◌, ◌≤◌, leng
 ghost use Rattle.segments.specs.Algebra.{algebra};
 ghost use Rattle.segments.specs.Distances.{LeastOf, Measured};
 ghost use Rattle.segments.specs.Paths.{Reached, Ecmp};
-ghost use Rattle.segments.specs.Spreads.{TightAt, HeadsFigured, ColumnFigured, Figured, Keyed, Spared, onward, slot as slot_at, worse_of as worseOf, lesser_of as lesserOf};
+ghost use Rattle.segments.specs.Spreads.{TightAt, HeadsFigured, ColumnFigured, Figured, Keyed, Spared, onward, slot as slot_at, worse_of as worse, lesser_of as lesser};
 
 use crate::distances::NO_PATH;
 use crate::figures::{Spread, write_slot};
@@ -12,10 +12,10 @@ use tariff::Tariff;
 
 // The link at a place, if it begins a best path from u to v.
 fn tight<M: Map>(map: &M, n: usize, dist: &[u32], u: usize, v: usize, place: usize) -> Option<Link>
-    requires measured { Measured (M.Map.meaning map.now) n dist.now }
+    requires measured { Measured (M.meaning map.now) n dist.now }
     requires from { u < n }
     requires to { v < n }
-    ensures { TightAt (M.Map.meaning map.now) u v place result }
+    ensures { TightAt (M.meaning map.now) u v place result }
 {
     let Some(link) = held(map, place) else {
         return None;
@@ -36,7 +36,7 @@ fn tight<M: Map>(map: &M, n: usize, dist: &[u32], u: usize, v: usize, place: usi
 
 // The larger delay and the worse value.
 fn worse<V: Tariff>(one: Option<Spread<V>>, other: Spread<V>) -> Spread<V>
-    ensures { result ≡ worseOf (algebra V.Ranking.good V.Tariff.joining) one other }
+    ensures { result ≡ worse (algebra V.good V.joining) one other }
 {
     match one {
         None => other,
@@ -55,8 +55,8 @@ fn worse<V: Tariff>(one: Option<Spread<V>>, other: Spread<V>) -> Spread<V>
 fn go_on<V: Tariff>(link: Link, spread: &[Spread<V>], slot: usize) -> Spread<V>
     requires within { slot < length spread.now }
     requires own { link.delay.0 ≤ 100000 }
-    requires rest { (slot_at (algebra V.Ranking.good V.Tariff.joining) spread.now slot).delay.0 ≤ 6300000 }
-    ensures { result ≡ onward (algebra V.Ranking.good V.Tariff.joining) spread.now slot link }
+    requires rest { (slot_at (algebra V.good V.joining) spread.now slot).delay.0 ≤ 6300000 }
+    ensures { result ≡ onward (algebra V.good V.joining) spread.now slot link }
 {
     let rest = spread[slot];
     Spread {
@@ -74,14 +74,14 @@ fn gather<M: Map, V: Tariff>(
     u: usize,
     v: usize,
 ) -> Spread<V>
-    requires measured { Measured (M.Map.meaning map.now) n dist.now }
+    requires measured { Measured (M.meaning map.now) n dist.now }
     requires space { n * n ≤ length spread.now }
     requires from { u < n }
     requires to { v < n }
     requires other { u ≢ v }
-    requires reached { Reached (M.Map.meaning map.now) u v }
-    requires heads { HeadsFigured (M.Map.meaning map.now) (algebra V.Ranking.good V.Tariff.joining) n spread.now u v }
-    ensures { Ecmp (M.Map.meaning map.now) (algebra V.Ranking.good V.Tariff.joining) u v result.delay.0 result.value }
+    requires reached { Reached (M.meaning map.now) u v }
+    requires heads { HeadsFigured (M.meaning map.now) (algebra V.good V.joining) n spread.now u v }
+    ensures { Ecmp (M.meaning map.now) (algebra V.good V.joining) u v result.delay.0 result.value }
 {
     let mut found: Option<Spread<V>> = None;
     for place in 0..map.places() {
@@ -105,13 +105,13 @@ fn figures_between<M: Map, V: Tariff>(
     u: usize,
     v: usize,
 ) -> Spread<V>
-    requires measured { Measured (M.Map.meaning map.now) n dist.now }
+    requires measured { Measured (M.meaning map.now) n dist.now }
     requires space { n * n ≤ length spread.now }
     requires from { u < n }
     requires to { v < n }
-    requires reached { Reached (M.Map.meaning map.now) u v }
-    requires heads { HeadsFigured (M.Map.meaning map.now) (algebra V.Ranking.good V.Tariff.joining) n spread.now u v }
-    ensures { Ecmp (M.Map.meaning map.now) (algebra V.Ranking.good V.Tariff.joining) u v result.delay.0 result.value }
+    requires reached { Reached (M.meaning map.now) u v }
+    requires heads { HeadsFigured (M.meaning map.now) (algebra V.good V.joining) n spread.now u v }
+    ensures { Ecmp (M.meaning map.now) (algebra V.good V.joining) u v result.delay.0 result.value }
 {
     if u == v {
         Spread {
@@ -125,7 +125,7 @@ fn figures_between<M: Map, V: Tariff>(
 
 // The lesser of a number and, if there is one, another.
 fn lesser(one: Option<usize>, other: usize) -> usize
-    ensures { result ≡ lesserOf one other }
+    ensures { result ≡ lesser one other }
 {
     match one {
         Some(one) => one.min(other),
@@ -161,11 +161,11 @@ fn fill_column<M: Map, V: Tariff>(
     spread: &mut [Spread<V>],
     v: usize,
 )
-    requires measured { Measured (M.Map.meaning map.now) n dist.now }
+    requires measured { Measured (M.meaning map.now) n dist.now }
     requires space { n * n ≤ length spread.old }
     requires to { v < n }
-    ensures done { ColumnFigured (M.Map.meaning map.now) (algebra V.Ranking.good V.Tariff.joining) n spread.new v }
-    ensures spared { Spared (algebra V.Ranking.good V.Tariff.joining) n v spread.old spread.new }
+    ensures done { ColumnFigured (M.meaning map.now) (algebra V.good V.joining) n spread.new v }
+    ensures spared { Spared (algebra V.good V.joining) n v spread.old spread.new }
 {
     let mut bar = 0;
     while let Some(key) = nearest_key(n, dist, v, bar) {
@@ -183,9 +183,9 @@ pub(crate) fn find_figures<M: Map, V: Tariff>(
     dist: &[u32],
     spread: &mut [Spread<V>],
 )
-    requires measured { Measured (M.Map.meaning map.now) n dist.now }
+    requires measured { Measured (M.meaning map.now) n dist.now }
     requires space { n * n ≤ length spread.old }
-    ensures { Figured (M.Map.meaning map.now) (algebra V.Ranking.good V.Tariff.joining) n spread.new }
+    ensures { Figured (M.meaning map.now) (algebra V.good V.joining) n spread.new }
 {
     for v in 0..n {
         fill_column(map, n, dist, spread, v);

@@ -14,7 +14,7 @@ fn node_leg<V: Tariff>(dist: &[u32], spread: &[Spread<V>], slot: usize, code: u1
     requires sized { slot < length dist.now }
     requires space { slot < length spread.now }
     requires small { code < 64 }
-    ensures { NodeLeg (algebra V.Ranking.good V.Tariff.joining) dist.now spread.now slot code result }
+    ensures { NodeLeg (algebra V.good V.joining) dist.now spread.now slot code result }
 {
     if dist[slot] == NO_PATH {
         return None;
@@ -29,7 +29,7 @@ fn node_leg<V: Tariff>(dist: &[u32], spread: &[Spread<V>], slot: usize, code: u1
 
 // Does the place hold a link that begins at u?
 fn leaves<M: Map>(map: &M, place: usize, u: usize) -> bool
-    ensures { Leaves (M.Map.meaning map.now) place u result }
+    ensures { Leaves (M.meaning map.now) place u result }
 {
     match held(map, place) {
         Some(link) => link.tail as usize == u,
@@ -39,7 +39,7 @@ fn leaves<M: Map>(map: &M, place: usize, u: usize) -> bool
 
 // Along the link at a place, if there is one.
 fn link_leg<M: Map, V: Tariff>(map: &M, place: usize) -> Option<Leg<V>>
-    ensures { LinkLeg (M.Map.meaning map.now) (algebra V.Ranking.good V.Tariff.joining) place result }
+    ensures { LinkLeg (M.meaning map.now) (algebra V.good V.joining) place result }
 {
     match held(map, place) {
         Some(link) => Some(Leg {
@@ -61,9 +61,9 @@ pub fn entry<M: Map, V: Tariff>(
     u: usize,
     code: u16,
 ) -> Option<Leg<V>>
-    requires routed { Routed (M.Map.meaning map.now) (algebra V.Ranking.good V.Tariff.joining) n dist.now spread.now }
+    requires routed { Routed (M.meaning map.now) (algebra V.good V.joining) n dist.now spread.now }
     requires from { u < n }
-    ensures { Entry (M.Map.meaning map.now) (algebra V.Ranking.good V.Tariff.joining) u code result }
+    ensures { Entry (M.meaning map.now) (algebra V.good V.joining) u code result }
 {
     let index = code as usize;
     match code {

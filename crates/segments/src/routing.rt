@@ -11,10 +11,10 @@ use tariff::Tariff;
 
 // Fills both working slices. Public for the search above this crate.
 pub fn route<M: Map, V: Tariff>(map: &M, n: usize, dist: &mut [u32], spread: &mut [Spread<V>])
-    requires nodes { n ≡ (M.Map.meaning map.now).nodes }
+    requires nodes { n ≡ (M.meaning map.now).nodes }
     requires sized { n * n ≤ length dist.old }
     requires space { n * n ≤ length spread.old }
-    ensures { Routed (M.Map.meaning map.now) (algebra V.Ranking.good V.Tariff.joining) n dist.new spread.new }
+    ensures { Routed (M.meaning map.now) (algebra V.good V.joining) n dist.new spread.new }
 {
     find_distances(map, n, dist, spread);
     find_figures(map, n, dist, spread);

@@ -6,35 +6,35 @@ use tariff::Tariff;
 
 // A list has one end and one set of figures.
 pub fn lists_are_functional<V: Tariff>() -> u8
-    ensures { ListsFunctional (algebra V.Ranking.good V.Tariff.joining) }
+    ensures { ListsFunctional (algebra V.good V.joining) }
 {
     0
 }
 
 // Precedence is a strict order, total on lists that differ.
 pub fn precedence_is_strict<V: Tariff>() -> u8
-    ensures { PrecedenceStrict (algebra V.Ranking.good V.Tariff.joining) }
+    ensures { PrecedenceStrict (algebra V.good V.joining) }
 {
     0
 }
 
 // At most one list within an order precedes every other.
 pub fn first_list_is_unique<V: Tariff>() -> u8
-    ensures { FirstUnique (algebra V.Ranking.good V.Tariff.joining) }
+    ensures { FirstUnique (algebra V.good V.joining) }
 {
     0
 }
 
 // The figures of a node code exist exactly where a path does.
 pub fn figures_are_where_paths_are<V: Tariff>() -> u8
-    ensures { FiguresWherePaths (algebra V.Ranking.good V.Tariff.joining) }
+    ensures { FiguresWherePaths (algebra V.good V.joining) }
 {
     0
 }
 
 // A node code is legal at every other node from which there is a path, and nowhere else.
 pub fn node_codes_are_where_paths_are<V: Tariff>() -> u8
-    ensures { NodeCodesWherePaths (algebra V.Ranking.good V.Tariff.joining) }
+    ensures { NodeCodesWherePaths (algebra V.good V.joining) }
 {
     0
 }

@@ -4,7 +4,7 @@ ghost use Rattle.questions.specs.Asking.{reply};
 ghost use Rattle.segments.specs.Algebra.{algebra};
 ghost use Rattle.segments.specs.Entries.{Stays, Extended};
 ghost use Rattle.segments.specs.Spreads.{Routed};
-ghost use Rattle.segments.specs.Walks.{WalkCall, WalkReply, walk_denial as walkDenial};
+ghost use Rattle.segments.specs.Walks.{WalkCall, WalkReply, walk_denial};
 
 use crate::entry::entry;
 use crate::figures::{Figures, Leg, Spread, Walk};
@@ -28,7 +28,7 @@ fn check_walk(
     count: usize,
 ) -> Result<(), Denial>
     requires { n ≤ 64 }
-    ensures { result ≡ reply (walkDenial n source grain.0 dist spread count) tt }
+    ensures { result ≡ reply (walk_denial n source grain.0 dist spread count) tt }
 {
     if source as usize >= n {
         return Err(Denial::of_order(Question::OrderNodes, 0));
@@ -47,7 +47,7 @@ fn check_walk(
 
 // The list without entries: it ends where it begins.
 fn stay<V: Tariff>(source: u8) -> Walk<V>
-    ensures { Stays (algebra V.Ranking.good V.Tariff.joining) source result }
+    ensures { Stays (algebra V.good V.joining) source result }
 {
     Walk {
         end: source,
@@ -67,7 +67,7 @@ fn extend<V: Tariff>(walked: Walk<V>, leg: Leg<V>, grain: Microseconds) -> Walk<
     requires delay { walked.figures.delay.0 ≤ 63000000 }
     requires grains { walked.figures.grains.0 ≤ 63000000 }
     requires labels { walked.figures.labels.0 ≤ 10 }
-    ensures { Extended (algebra V.Ranking.good V.Tariff.joining) grain.0 walked leg result }
+    ensures { Extended (algebra V.good V.joining) grain.0 walked leg result }
 {
     let figures = walked.figures;
     let steps = round_up(leg.delay, grain);
@@ -92,11 +92,11 @@ fn follow<M: Map, V: Tariff>(
     dist: &[u32],
     spread: &[Spread<V>],
 ) -> Result<Walk<V>, Denial>
-    requires routed { Routed (M.Map.meaning map.now) (algebra V.Ranking.good V.Tariff.joining) n dist.now spread.now }
+    requires routed { Routed (M.meaning map.now) (algebra V.good V.joining) n dist.now spread.now }
     requires from { source < n }
     requires grain { 1 ≤ grain.0 }
     requires short { length list.now ≤ 10 }
-    ensures { WalkReply (M.Map.meaning map.now) (algebra V.Ranking.good V.Tariff.joining) source grain.0 list.now result }
+    ensures { WalkReply (M.meaning map.now) (algebra V.good V.joining) source grain.0 list.now result }
 {
     let mut walked = stay(source);
     for (i, code) in list.iter().enumerate() {
@@ -118,7 +118,7 @@ pub fn walk<M: Map, V: Tariff>(
     dist: &mut [u32],
     spread: &mut [Spread<V>],
 ) -> Result<Walk<V>, Denial>
-    ensures { WalkCall (M.Map.meaning map.now) (algebra V.Ranking.good V.Tariff.joining) source grain.0 list.now dist.old dist.new spread.old spread.new result }
+    ensures { WalkCall (M.meaning map.now) (algebra V.good V.joining) source grain.0 list.now dist.old dist.new spread.old spread.new result }
 {
     let n = map.nodes();
     check_walk(n, source, grain, dist.len(), spread.len(), list.len())?;

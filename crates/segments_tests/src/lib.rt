@@ -1,6 +1,6 @@
+// Examples of walked segment lists: their figures, and each refusal on both sides of its limit.
 #![tactic(auto)]
 
-// Examples of walked segment lists: their figures, and each refusal on both sides of its limit.
 #[cfg(test)]
 mod nets;
 #[cfg(test)]

@@ -13,6 +13,7 @@ use reporting::report;
 use segments::Spread;
 use std::env;
 use std::io::Read;
+use std::process::ExitCode;
 use tariff::Cost;
 
 // One more than the longest image has, so that an input that is too long is seen to be.
@@ -21,12 +22,12 @@ const MOST_BYTES: u64 = 3077;
 // A slot for each pair of the 64 nodes that a map may have.
 const SLOTS: usize = 4096;
 
-fn main(rt: HostRuntime) -> anyhow::Result<()> {
+fn main(rt: HostRuntime) -> ExitCode {
     match run(&rt) {
-        Ok(()) => Ok(()),
+        Ok(()) => ExitCode::SUCCESS,
         Err(error) => {
             let _ = eprintln!(rt; "walk: {error}");
-            Err(error)
+            ExitCode::FAILURE
         }
     }
 }

@@ -17,7 +17,7 @@ fn report_walk<M: Map>(
     dist: &mut [u32],
     spread: &mut [Spread<Cost>],
 ) -> Result<String, AllocError>
-    ensures { IfOk result (λ text. WalkReports source grain.0 list.now dist.old dist.new spread.old spread.new (M.Map.meaning map.now) (string_bytes text)) }
+    ensures { IfOk result (λ text. WalkReports source grain.0 list.now dist.old dist.new spread.old spread.new (M.meaning map.now) (string_bytes text)) }
 {
     match walk(map, source, grain, list, dist, spread) {
         Ok(walked) => {

@@ -1,8 +1,8 @@
 use Rattle.std.proofs.Common.{◌<◌, ◌≤◌, ◌++◌, string_bytes, ap, ◌∙◌, arith}
 use Rattle.netmap.specs.Net.{places}
-use Rattle.links.specs.Texts.{place_text}
-use Rattle.links.proofs.Texts.{lines_more, lines_all}
-use Rattle.links.proofs.listing.add_places.Goals as goal
+use Rattle.netmap.specs.Texts.{place_text}
+use Rattle.netmap.proofs.Texts.{lines_more, lines_all}
+use Rattle.netmap.proofs.listing.add_places.Goals as goal
 
 pub loop-place-preserved : goal.loop-place-preserved
 loop-place-preserved g c =

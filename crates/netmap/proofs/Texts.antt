@@ -2,7 +2,7 @@
 use Rattle.std.proofs.Common.{◌≡◌, ℕ, ◌+◌, ◌<◌, ◌≤◌, List, ◌++◌, drop, None, sym, ap, ◌∙◌, append_assoc, append-nil}
 use Rattle.std.proofs.lemmas.List.{drop_more, drop_all}
 use Rattle.netmap.specs.Net.{Net, places, link_at}
-use Rattle.links.specs.Texts.{place_text, places_text}
+use Rattle.netmap.specs.Texts.{place_text, places_text}
 
 -- from the text at the start, that before the line of place k
 abbrev pub LinesTo : Net → List ℕ → ℕ → List ℕ → Type 0

@@ -1,8 +1,10 @@
 // The text of a map, for the person who enrols a carrier.
 ghost use Rattle.std.specs.Prelude.{◌≡◌, ◌++◌, IfOk, Some, string_bytes, OnOk};
-ghost use Rattle.links.specs.Texts.{counts_text, link_text, place_text, places_text, listed, Reports};
+ghost use Rattle.netmap.specs.Texts.{counts_text, link_text, place_text, places_text, listed, Reports};
 
-use netmap::{Image, Link, Map, held};
+use crate::image::Image;
+use crate::link::Link;
+use crate::map::{Map, held};
 use std::alloc::{AllocError, Global};
 use std::fmt;
 
@@ -64,7 +66,7 @@ fn add_place(
 }
 
 // The counts of a map, then a line for each filled place.
-pub(crate) fn listing<M: Map>(heap: Global, map: &M) -> Result<String, AllocError>
+pub fn listing<M: Map>(heap: Global, map: &M) -> Result<String, AllocError>
     ensures { IfOk result (λ text. string_bytes text ≡ listed (M.meaning map.now)) }
 {
     let counts = Counts {
@@ -86,7 +88,7 @@ fn add_places<M: Map>(heap: Global, text: &mut String, map: &M) -> Result<(), Al
 }
 
 // The listing of the map whose image the bytes are, or the line of its refusal.
-pub(crate) fn report(heap: Global, bytes: &mut [u8]) -> Result<String, AllocError>
+pub fn report(heap: Global, bytes: &mut [u8]) -> Result<String, AllocError>
     ensures says { IfOk result (λ text. Reports bytes.old (string_bytes text)) }
     ensures same { bytes.new ≡ bytes.old }
 {

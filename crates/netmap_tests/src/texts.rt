@@ -1,5 +1,5 @@
 // Listings and refusal lines, as the program prints them.
-use crate::listing::report;
+use netmap::listing::report;
 use std::process::Abort;
 use std::test::Fail;
 
