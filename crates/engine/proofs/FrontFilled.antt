@@ -11,7 +11,7 @@ use Rattle.engine.specs.Chosen.{Whole}
 use Rattle.engine.specs.Fronts.{Had, held, most_grains_of}
 use Rattle.keeper.specs.Fronts.{Optimal, Front}
 use Rattle.keeper.specs.Keepers.{Accepted}
-use Rattle.keeper.proofs.FrontCovered.{optimal_up, optimal_down}
+use Rattle.engine.proofs.FrontCovered.{optimal_up, optimal_down}
 use Rattle.engine.proofs.OrderAdmitted.{admitted}
 use Rattle.engine.proofs.QuoteFromTable.{Offered, offers_cover}
 use Rattle.engine.specs.Offers.{Gathered}

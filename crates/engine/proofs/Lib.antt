@@ -4,6 +4,7 @@ pub mod CellExtended
 pub mod CellPlaces
 pub mod CellsPassed
 pub mod ChosenFirst
+pub mod FrontCovered
 pub mod FrontFilled
 pub mod FrontGathered
 pub mod FrontDetermined

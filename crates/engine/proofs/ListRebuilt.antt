@@ -80,7 +80,7 @@ module _ {V : Type 0} (net : Net) (alg : Algebra V) (lawful : Laws alg) (grain :
   tried_all below past c = below c.0 (omega (arith, past, segment_below net alg v c.0 c.1.leg c.1.segment)) c.1
 
 -- i entries are written, and what is left goes on from the node v with d grains after the prefix p
-pub record RebuiltTo {V : Type 0} (net : Net) (alg : Algebra V) (grain top : ℕ) (total : V) (best : ℕ → ℕ → ℕ → Option V) (start-d start-v entries : ℕ) (p : V) (d v i delay : ℕ) (before after : List ℕ) : Type 0 where
+pub record RebuiltTo {V : Type 0} (net : Net) (alg : Algebra V) (grain top : ℕ) (total : V) (best : ℕ → ℕ → ℕ → Option V) (start_d start_v entries : ℕ) (p : V) (d v i delay : ℕ) (before after : List ℕ) : Type 0 where
   pub left : ℕ
   pub count : left + i ≡ entries
   pub node : v < net.nodes
@@ -89,7 +89,7 @@ pub record RebuiltTo {V : Type 0} (net : Net) (alg : Algebra V) (grain top : ℕ
   pub cell : best left d v ≡ Some suffix
   pub whole : alg.join p suffix ≡ total
   pub legs : List (Leg V)
-  pub grows : (cs : List ℕ) (hs : List (Leg V)) → Rebuilt net alg grain total best p d v left cs hs → Rebuilt net alg grain total best alg.neutral start-d start-v entries (take i after ++ cs) (legs ++ hs)
+  pub grows : (cs : List ℕ) (hs : List (Leg V)) → Rebuilt net alg grain total best p d v left cs hs → Rebuilt net alg grain total best alg.neutral start_d start_v entries (take i after ++ cs) (legs ++ hs)
   pub delays : delay ≡ list_delay legs
   pub bound : delay ≤ 6300000 * i
   pub rest : drop i after ≡ drop i before

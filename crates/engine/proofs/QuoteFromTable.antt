@@ -14,7 +14,7 @@ use Rattle.engine.specs.Rebuilds.{Rebuilt}
 use Rattle.engine.proofs.RebuiltMade.{rebuilt_made}
 use Rattle.engine.specs.Chosen.{Chosen}
 use Rattle.engine.proofs.ChosenFirst.{listed_within, within_listed, within_grains, rebuilt_precedes}
-use Rattle.keeper.proofs.FrontCovered.{Covers}
+use Rattle.engine.proofs.FrontCovered.{Covers}
 
 module _ {V : Type 0} (net : Net) (alg : Algebra V) (lawful : Laws alg) (sound : Sound net) (o : Order) (node : o.source < net.nodes) (one : 0 < o.grain.0) (best : ℕ → ℕ → ℕ → Option V)
     (good : (l : ℕ) → l ≤ o.limit.0 → Row net alg o.grain.0 o.target (most_grains_of o) l (best l)) where

@@ -12,6 +12,7 @@ mod search;
 mod table;
 pub mod theorems;
 
+pub use keeper;
 pub use keeper::{empty_slots, offer};
 pub use pareto::front;
 pub use quoting::quote;

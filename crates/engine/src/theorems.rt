@@ -2,6 +2,7 @@
 ghost use Rattle.segments.specs.Algebra.{algebra};
 ghost use Rattle.engine.specs.Theorems.{QuotesDetermined, FrontsDetermined};
 
+pub use keeper::theorems::{front_is_unique, keeper_holds_front};
 use tariff::Tariff;
 
 // A quote has one reply and leaves one content of the list space.

@@ -12,7 +12,7 @@ use Rattle.engine.specs.Fronts.{Had}
 use Rattle.keeper.specs.Fronts.{InSlot, Front}
 use Rattle.segments.proofs.JoinedValues.{as_good_refl}
 use Rattle.segments.proofs.OptionValues.{some_same}
-use Rattle.keeper.proofs.FrontCovered.{Covers, optimal_up, optimal_down}
+use Rattle.engine.proofs.FrontCovered.{Covers, optimal_up, optimal_down}
 use Rattle.examples.proofs.ComputedTests.{◌>>=◌, the, or_else, each, some, ask, deny, equal, differ, at_most, less, above}
 use Rattle.examples.proofs.PathPlans.{Plan, Planned, every, legs_of}
 

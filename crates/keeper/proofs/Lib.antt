@@ -1,4 +1,3 @@
-pub mod FrontCovered
 pub mod FrontKept
 pub mod FrontUnique
 pub mod IndexSplit

@@ -13,6 +13,6 @@ pub mod table;
 pub use image::Image;
 pub use link::{Link, Microseconds};
 pub use map::{Map, held};
-pub use questions::{Denial, Layer, Question};
+pub use questions::{Denial, Layer, Question, denial};
 pub use storage::store;
 pub use table::RecordTable;

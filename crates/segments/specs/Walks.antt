@@ -52,9 +52,9 @@ module _ {V : Type 0} (net : Net) (alg : Algebra V) (source grain : ℕ) (cs : L
 
   -- denied by one of the questions, which leaves the working slices as they were, or walked
   abbrev pub WalkBy : Option Denial → List ℕ → List ℕ → List (Spread V) → List (Spread V) → Result (Walk V) Denial → Type 0
-  WalkBy (Some d) dist dist-after spread spread-after r = (r ≡ Err d) × (dist-after ≡ dist) × (spread-after ≡ spread)
-  WalkBy None dist dist-after spread spread-after r = WalkReply r
+  WalkBy (Some d) dist dist_after spread spread_after r = (r ≡ Err d) × (dist_after ≡ dist) × (spread_after ≡ spread)
+  WalkBy None dist dist_after spread spread_after r = WalkReply r
 
   -- the working slices before and after, and the reply
   abbrev pub WalkCall : List ℕ → List ℕ → List (Spread V) → List (Spread V) → Result (Walk V) Denial → Type 0
-  WalkCall dist dist-after spread spread-after r = WalkBy (walk_denial net.nodes source grain (length dist) (length spread) (length cs)) dist dist-after spread spread-after r
+  WalkCall dist dist_after spread spread_after r = WalkBy (walk_denial net.nodes source grain (length dist) (length spread) (length cs)) dist dist_after spread spread_after r

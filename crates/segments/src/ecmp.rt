@@ -3,7 +3,7 @@ ghost use Rattle.std.specs.Prelude.{◌≡◌, ◌*◌, ◌<◌, ◌≤◌, leng
 ghost use Rattle.segments.specs.Algebra.{algebra};
 ghost use Rattle.segments.specs.Distances.{LeastOf, Measured};
 ghost use Rattle.segments.specs.Paths.{Reached, Ecmp};
-ghost use Rattle.segments.specs.Spreads.{TightAt, HeadsFigured, ColumnFigured, Figured, Keyed, Spared, onward, slot as slot_at, worse_of as worse, lesser_of as lesser};
+ghost use Rattle.segments.specs.Spreads.{TightAt, HeadsFigured, ColumnFigured, Figured, Keyed, Spared, onward, slot as slot_at, worse_of, lesser_of};
 
 use crate::distances::NO_PATH;
 use crate::figures::{Spread, write_slot};
@@ -36,7 +36,7 @@ fn tight<M: Map>(map: &M, n: usize, dist: &[u32], u: usize, v: usize, place: usi
 
 // The larger delay and the worse value.
 fn worse<V: Tariff>(one: Option<Spread<V>>, other: Spread<V>) -> Spread<V>
-    ensures { result ≡ worse (algebra V.good V.joining) one other }
+    ensures { result ≡ worse_of (algebra V.good V.joining) one other }
 {
     match one {
         None => other,
@@ -125,7 +125,7 @@ fn figures_between<M: Map, V: Tariff>(
 
 // The lesser of a number and, if there is one, another.
 fn lesser(one: Option<usize>, other: usize) -> usize
-    ensures { result ≡ lesser one other }
+    ensures { result ≡ lesser_of one other }
 {
     match one {
         Some(one) => one.min(other),

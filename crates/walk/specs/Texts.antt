@@ -21,11 +21,11 @@ abbrev pub reply_line : Result (Walk Cost) Denial → List ℕ
 reply_line (Ok w) = walk_line w
 reply_line (Err d) = line (refusal d)
 
-module _ (source grain : ℕ) (cs : List ℕ) (dist dist-after : List ℕ) (spread spread-after : List (Spread Cost)) where
+module _ (source grain : ℕ) (cs : List ℕ) (dist dist_after : List ℕ) (spread spread_after : List (Spread Cost)) where
   -- the text of what a walk over the network replies
   pub record WalkReports (net : Net) (text : List ℕ) : Type 0 where
     pub reply : Result (Walk Cost) Denial
-    pub walked : WalkCall net (algebra cheaper costs) source grain cs dist dist-after spread spread-after reply
+    pub walked : WalkCall net (algebra cheaper costs) source grain cs dist dist_after spread spread_after reply
     pub said : text ≡ reply_line reply
 
   abbrev pub ReportsBy : Option Denial → List ℕ → List ℕ → Type 0
