@@ -7,6 +7,11 @@ use Rattle.segments.specs.Paths.{total_delay, path_value, IsBest, Tight, Ecmp}
 use Rattle.segments.proofs.JoinedValues.{path_value_cons, as_good_refl}
 use Rattle.segments.proofs.TightLinks.{best_rest, tight_best}
 
+-- a tight link with the figures from its head on
+pub record Onward {V : Type 0} (net : Net) (alg : Algebra V) (u v : ℕ) (l : Link) (d : ℕ) (x : V) : Type 0 where
+  pub tight : Tight net u v l
+  pub ecmp : Ecmp net alg l.head v d x
+
 module _ {V : Type 0} (net : Net) (alg : Algebra V) (lawful : Laws alg) (sound : Sound net) where
   only_empty : (v : ℕ) (ls : List Link) → IsBest net v ls v → ls ≡ []
   only_empty v [] b = refl
@@ -23,18 +28,13 @@ module _ {V : Type 0} (net : Net) (alg : Algebra V) (lawful : Laws alg) (sound :
         value_worst = λ ls h. subst (λ x. AsGood alg (path_value alg x) alg.neutral) (sym (only_empty v ls h)) (as_good_refl alg lawful alg.neutral);
       }
 
-  -- a tight link with the figures from its head on
-  pub record Onward (u v : ℕ) (l : Link) (d : ℕ) (x : V) : Type 0 where
-    pub tight : Tight net u v l
-    pub ecmp : Ecmp net alg l.head v d x
-
   -- the figures at u from those at the heads of its tight links
   pub ecmp_step : (u v d : ℕ) (x : V) → (u ≡ v → ⊥)
-      → ((l : Link) → Tight net u v l → (e : ℕ) × (y : V) × Onward u v l e y)
-      → ((l : Link) (e : ℕ) (y : V) → Onward u v l e y → l.delay.0 + e ≤ d)
-      → (l : Link) × (e : ℕ) × (y : V) × Onward u v l e y × (l.delay.0 + e ≡ d)
-      → ((l : Link) (e : ℕ) (y : V) → Onward u v l e y → AsGood alg (alg.join (alg.of_link l) y) x)
-      → (l : Link) × (e : ℕ) × (y : V) × Onward u v l e y × (alg.join (alg.of_link l) y ≡ x)
+      → ((l : Link) → Tight net u v l → (e : ℕ) × (y : V) × Onward net alg u v l e y)
+      → ((l : Link) (e : ℕ) (y : V) → Onward net alg u v l e y → l.delay.0 + e ≤ d)
+      → (l : Link) × (e : ℕ) × (y : V) × Onward net alg u v l e y × (l.delay.0 + e ≡ d)
+      → ((l : Link) (e : ℕ) (y : V) → Onward net alg u v l e y → AsGood alg (alg.join (alg.of_link l) y) x)
+      → (l : Link) × (e : ℕ) × (y : V) × Onward net alg u v l e y × (alg.join (alg.of_link l) y ≡ x)
       → Ecmp net alg u v d x
   ecmp_step u v d x other has d-most d-met x-worst x-met =
       let md = d-met.3.ecmp.delay_met in

@@ -1,38 +1,26 @@
 -- What is read of a code is what it does at the node.
-use Rattle.std.proofs.Common.{◌≡◌, ℕ, ◌+◌, ◌-◌, ◌*◌, ◌<◌, ◌≤◌, true, List, get_or, Some, None, Option, sym, ap, ◌∙◌, subst, inl, inr, arith}
+use Rattle.std.proofs.Common.{◌≡◌, ℕ, ◌+◌, ◌-◌, ◌*◌, ◌<◌, ◌≤◌, true, List, Some, None, Option, sym, refl, ap, ◌∙◌, subst, inl, inr, arith}
 use Rattle.netmap.specs.Net.{Net, Sound, link_at}
 use Rattle.segments.specs.declared.figures.Leg.{Leg}
 use Rattle.segments.specs.declared.figures.Spread.{Spread}
 use Rattle.segments.specs.Algebra.{Algebra}
-use Rattle.segments.specs.Distances.{table_of}
-use Rattle.segments.specs.Entries.{Leaves, Entry, NodeLeg, LinkLeg}
-use Rattle.segments.specs.Paths.{Ecmp}
+use Rattle.segments.specs.Entries.{Leaves, Entry, node_leg, LinkLeg}
 use Rattle.segments.specs.Segments.{NodeSegment, Segment}
-use Rattle.segments.specs.Spreads.{slot, Routed}
-use Rattle.segments.proofs.DistanceSlots.{cell_none, cell_full}
-use Rattle.segments.proofs.ExactDistances.{path_far, far_path}
+use Rattle.segments.specs.Spreads.{slot, FiguresOf, Routed}
 use Rattle.segments.proofs.NodesReached.{path_node}
 use Rattle.segments.proofs.OptionValues.{some_same, none_some}
 
-module _ {V : Type 0} (net : Net) (alg : Algebra V) (sound : Sound net) (n : ℕ) (dist : List ℕ) (spread : List (Spread V)) (routed : Routed net alg n dist spread) (u c : ℕ) (nu : u < n) where
+module _ {V : Type 0} (net : Net) (alg : Algebra V) (sound : Sound net) (n : ℕ) (spread : List (Option (Spread V))) (routed : Routed net alg n spread) (u c : ℕ) (nu : u < n) where
   node_below : (h : Leg V) → NodeSegment net alg u c h → c < n
-  node_below h s = subst (λ m. c < m) (sym routed.measured.nodes) (path_node net sound u c s.spread.delay_met.0 (subst (λ m. u < m) routed.measured.nodes nu) s.spread.delay_met.1.path)
+  node_below h s = subst (λ m. c < m) (sym routed.nodes) (path_node net sound u c s.spread.delay_met.0 (subst (λ m. u < m) routed.nodes nu) s.spread.delay_met.1.path)
 
   -- a code of a node
-  pub entry_node : c < 64 → c < n → (c ≡ u → ⊥) → (o : Option (Leg V)) → NodeLeg alg dist spread (u * n + c) c o → Entry net alg u c o
-  entry_node range nc ne (Some l) s =
-      let b = far_path net sound n dist routed.measured u c (get_or dist (u * n + c) 0) nu nc (cell_full (get_or dist (u * n + c) 0) s.0) in
-      let f = routed.figured u c nu nc (b.0, b.1.path) in
-      inl (record {
-        range = range;
-        other = λ e. ne (sym e);
-        to = s.1;
-        spread = subst (λ d. Ecmp net alg u c d l.value) (sym s.2) (subst (λ x. Ecmp net alg u c (slot alg spread (u * n + c)).delay.0 x) (sym s.3) f);
-      })
-  entry_node range nc ne None s = λ h t. no h t
+  pub entry_node : c < 64 → c < n → (c ≡ u → ⊥) → (s : Option (Spread V)) → slot spread (u * n + c) ≡ s → Entry net alg u c (node_leg c s)
+  entry_node range nc ne (Some s) e = inl (record { range = range; other = λ z. ne (sym z); to = refl; spread = subst (FiguresOf net alg u c) e (routed.figured u c nu nc) })
+  entry_node range nc ne None e = λ h t. no h t
     where
       no : (h : Leg V) → Segment net alg u c h → ⊥
-      no h (inl t) = let f = path_far net sound n dist routed.measured u c t.spread.delay_met.0 nu nc t.spread.delay_met.1.path in none_some (table_of n dist u c) f.0 (cell_none (get_or dist (u * n + c) 0) s) f.1
+      no h (inl t) = subst (FiguresOf net alg u c) e (routed.figured u c nu nc) (t.spread.delay_met.0, t.spread.delay_met.1.path)
       no h (inr t) = omega (arith, t.low, range)
 
   -- a code of a place

@@ -1,12 +1,10 @@
 pub mod BestPathsShort
 pub mod ColumnsFilled
 pub mod CostsBounded
-pub mod DistanceSlots
 pub mod EcmpFromHeads
 pub mod EntryMeaning
 pub mod ExactDistances
 pub mod FiguresGathered
-pub mod FiguresOnward
 pub mod FiguresSmall
 pub mod FiguresTotal
 pub mod FirstBestPath
@@ -26,7 +24,6 @@ pub mod PlaceTried
 pub mod PrecedenceStrict
 pub mod RoundExtends
 pub mod RoundMade
-pub mod RoundTaken
 pub mod RoundsEnd
 pub mod SegmentsFunctional
 pub mod SimplePaths

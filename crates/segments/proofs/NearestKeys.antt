@@ -1,18 +1,17 @@
 -- The least key is found node by node.
-use Rattle.std.proofs.Common.{◌≡◌, ℕ, ◌+◌, ◌*◌, ◌%◌, ◌<◌, ◌≤◌, ◌⊎◌, List, get_or, Some, Option, sym, refl, ap, ◌∙◌, subst, inl, inr, ⊎_elim, arith}
+use Rattle.std.proofs.Common.{◌≡◌, ℕ, ◌+◌, ◌*◌, ◌%◌, ◌<◌, ◌≤◌, ◌⊎◌, List, Some, None, Option, sym, refl, ap, ◌∙◌, subst, inl, inr, ⊎_elim, arith}
 use lib.Arith.{digits_mod}
 use Rattle.std.proofs.lemmas.Bool.{cases_eq}
-use Rattle.segments.specs.Distances.{LeastOf, no_path, table_of}
-use Rattle.segments.specs.Spreads.{lesser_of, Keyed}
-use Rattle.segments.proofs.DistanceSlots.{cell_none}
+use Rattle.segments.specs.Distances.{LeastOf, lesser_of, table_of}
+use Rattle.segments.specs.Spreads.{Keyed}
 use Rattle.segments.proofs.LeastNumbers.{least_same, least_lesser}
 use Rattle.segments.proofs.OptionValues.{some_same, none_some}
 
 -- the least of the keys of the nodes below i
-abbrev pub KeyedTo : ℕ → List ℕ → ℕ → ℕ → ℕ → ℕ → Type 0
+abbrev pub KeyedTo : ℕ → List (Option ℕ) → ℕ → ℕ → ℕ → ℕ → Type 0
 KeyedTo n xs v bar i key = (r : Keyed n xs v bar key) × (r.node < i)
 
-module _ (n : ℕ) (xs : List ℕ) (v bar i : ℕ) where
+module _ (n : ℕ) (xs : List (Option ℕ)) (v bar i : ℕ) where
   keys_grow : (w : ℕ) → KeyedTo n xs v bar i w → KeyedTo n xs v bar (i + 1) w
   keys_grow w r = (r.0, omega (arith, r.1))
 
@@ -28,8 +27,8 @@ module _ (n : ℕ) (xs : List ℕ) (v bar i : ℕ) where
   pub keys_none : (o : Option ℕ) → ((w : ℕ) (r : Keyed n xs v bar w) → r.node ≡ i → ⊥) → LeastOf (KeyedTo n xs v bar i) o → LeastOf (KeyedTo n xs v bar (i + 1)) o
   keys_none o ne = least_same _ _ o keys_grow (λ w r. ⊎_elim (λ a. a) (λ e. absurd (ne w r.0 e)) (keys_last w r))
 
-  pub keys_unknown : (o : Option ℕ) → get_or xs (i * n + v) 0 ≡ no_path → LeastOf (KeyedTo n xs v bar i) o → LeastOf (KeyedTo n xs v bar (i + 1)) o
-  keys_unknown o e = keys_none o (λ w r k. none_some (table_of n xs i v) r.far (cell_none _ e) (subst (λ m. table_of n xs m v ≡ Some r.far) k r.at))
+  pub keys_unknown : (o : Option ℕ) → table_of n xs i v ≡ None → LeastOf (KeyedTo n xs v bar i) o → LeastOf (KeyedTo n xs v bar (i + 1)) o
+  keys_unknown o e = keys_none o (λ w r k. none_some (table_of n xs i v) r.far e (subst (λ m. table_of n xs m v ≡ Some r.far) k r.at))
 
   module _ (f : ℕ) (at : table_of n xs i v ≡ Some f) where
     pub keys_before : (o : Option ℕ) → f * n + i < bar → LeastOf (KeyedTo n xs v bar i) o → LeastOf (KeyedTo n xs v bar (i + 1)) o
@@ -40,11 +39,11 @@ module _ (n : ℕ) (xs : List ℕ) (v bar i : ℕ) where
         (λ w r. ⊎_elim inl (λ e. inr (own_key w f r.0 e at)) (keys_last w r))
         (record { node = i; below = h; far = f; at = at; is = refl; from = from }, omega arith)
 
-pub keys_all : (n : ℕ) (xs : List ℕ) (v bar i : ℕ) (o : Option ℕ) → n ≤ i → LeastOf (KeyedTo n xs v bar i) o → LeastOf (Keyed n xs v bar) o
+pub keys_all : (n : ℕ) (xs : List (Option ℕ)) (v bar i : ℕ) (o : Option ℕ) → n ≤ i → LeastOf (KeyedTo n xs v bar i) o → LeastOf (Keyed n xs v bar) o
 keys_all n xs v bar i o past = least_same _ _ o (λ w r. r.0) (λ w r. (r, omega (arith, r.below, past)))
 
 -- the node of a key
-module _ {n : ℕ} {xs : List ℕ} {v bar key : ℕ} (k : Keyed n xs v bar key) where
+module _ {n : ℕ} {xs : List (Option ℕ)} {v bar key : ℕ} (k : Keyed n xs v bar key) where
   key_node : key % n ≡ k.node
   key_node = ap (λ j. j % n) (sym k.is) ∙ digits_mod k.far k.below
 

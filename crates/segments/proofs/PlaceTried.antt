@@ -4,32 +4,10 @@ use Rattle.std.proofs.lemmas.List.{get_or_past}
 use Rattle.std.proofs.lemmas.Bool.{cases_eq, cases_lt}
 use Rattle.netmap.specs.declared.link.Link.{Link}
 use Rattle.netmap.specs.Net.{Net, link_at, places}
-use Rattle.segments.specs.Distances.{LeastOf, no_path, cell}
+use Rattle.segments.specs.Distances.{LeastOf, lesser_of}
 use Rattle.segments.specs.Relaxations.{Relaxed, Tried, TriedTo}
-use Rattle.segments.proofs.DistanceSlots.{cell_some}
-use Rattle.segments.proofs.LeastNumbers.{least_same}
+use Rattle.segments.proofs.LeastNumbers.{least_same, least_lesser}
 use Rattle.segments.proofs.OptionValues.{some_same, none_some}
-
--- the weights of at most 64 links, or no path
-abbrev pub Small : ℕ → Type 0
-Small w = (w ≤ 4194240) ⊎ (w ≡ no_path)
-
-module _ (P Q : ℕ → Type 0) (best s : ℕ) (l : LeastOf P (cell best)) (small : Small best) (fits : s < no_path) (up : (w : ℕ) → P w → Q w) (down : (w : ℕ) → Q w → P w ⊎ (w ≡ s)) (own : Q s) where
-  least_take : s < best → LeastOf Q (cell s)
-  least_take less = subst (LeastOf Q) (sym (cell_some s fits)) (
-    own,
-    λ y q. ⊎_elim
-        (λ p. ⊎_elim
-        (λ (b : best ≤ 4194240). omega (arith, (subst (LeastOf P) (cell_some best (omega arith)) l).1 y p, less))
-        (λ (b : best ≡ no_path). absurd (subst (λ n. LeastOf P (cell n)) b l y p)) small)
-        (λ (e : y ≡ s). omega (arith, e)) (down y q),
-  )
-
-  least_leave : best ≤ s → LeastOf Q (cell best)
-  least_leave more =
-      let c = cell_some best (omega arith) in
-      let m = subst (LeastOf P) c l in
-      subst (LeastOf Q) (sym c) (up best m.0, λ y q. ⊎_elim (λ p. m.1 y p) (λ (e : y ≡ s). omega (arith, e, more)) (down y q))
 
 module _ (net : Net) (old : ℕ → ℕ → Option ℕ) (p u v : ℕ) where
   grows : (w : ℕ) → TriedTo net old p u v w → TriedTo net old (p + 1) u v w
@@ -55,7 +33,7 @@ module _ (net : Net) (old : ℕ → ℕ → Option ℕ) (p u v : ℕ) where
     pub try_far : (o : Option ℕ) → old l.head v ≡ None → LeastOf (TriedTo net old p u v) o → LeastOf (TriedTo net old (p + 1) u v) o
     try_far o none = try_none o (λ w r e. none_some (old l.head v) r.rest none (ap (λ k. old k.head v) (sym (same_link r.link r.holds.0 e r.holds.1)) ∙ r.below))
 
-    module _ (best rest : ℕ) (tail : l.tail ≡ u) (below : old l.head v ≡ Some rest) (small : Small best) (fits : l.weight + rest < no_path) (least : LeastOf (TriedTo net old p u v) (cell best)) where
+    module _ (rest : ℕ) (tail : l.tail ≡ u) (below : old l.head v ≡ Some rest) where
       own : TriedTo net old (p + 1) u v (l.weight + rest)
       own = inr (record { link = l; holds = (p, at_p); tail = tail; rest = rest; below = below; weight = refl }, omega arith)
 
@@ -69,11 +47,8 @@ module _ (net : Net) (old : ℕ → ℕ → Option ℕ) (p u v : ℕ) where
           (λ (ne : r.0.holds.0 ≡ p → ⊥). inl (inr (r.0, omega (arith, r.1, ne))))
           (cases_eq r.0.holds.0 p)
 
-      pub try_less : l.weight + rest < best → LeastOf (TriedTo net old (p + 1) u v) (cell (l.weight + rest))
-      try_less = least_take _ _ best (l.weight + rest) least small fits grows down own
-
-      pub try_more : best ≤ l.weight + rest → LeastOf (TriedTo net old (p + 1) u v) (cell best)
-      try_more = least_leave _ _ best (l.weight + rest) least small fits grows down own
+      pub try_near : (o : Option ℕ) → LeastOf (TriedTo net old p u v) o → LeastOf (TriedTo net old (p + 1) u v) (Some (lesser_of o (l.weight + rest)))
+      try_near o least = least_lesser _ _ o (l.weight + rest) least grows down own
 
   -- behind the last place
   pub tried_all : (o : Option ℕ) → places net ≤ p → LeastOf (TriedTo net old p u v) o → LeastOf (Tried net old u v) o

@@ -1,36 +1,26 @@
 -- From round to round the table holds the least over one link more, until no round changes it.
-use Rattle.std.proofs.Common.{◌≡◌, ℕ, ◌+◌, ◌-◌, ◌*◌, ◌/◌, ◌%◌, ◌<◌, ◌≤◌, cond, eqb, List, [], ◌∷◌, length, get_or, Some, None, sym, refl, ap, ◌∙◌, subst, inl, ⊎_elim, arith}
+use Rattle.std.proofs.Common.{◌≡◌, ℕ, ◌+◌, ◌-◌, ◌*◌, ◌<◌, ◌≤◌, cond, eqb, List, [], ◌∷◌, length, Some, None, Option, sym, refl, subst, inl, ⊎_elim, arith}
 use lib.Arith.{digits_lt}
 use Rattle.std.proofs.lemmas.Bool.{cases_eq, eq-eqb, ne_eqb}
 use Rattle.netmap.specs.declared.link.Link.{Link}
 use Rattle.netmap.specs.Net.{Net, Sound}
-use Rattle.segments.specs.Distances.{LeastOf, Far, no_path, cell, table_of, Exact, Known, AllKnown, Same}
+use Rattle.segments.specs.Distances.{LeastOf, Far, cell, table_of, Exact, Known, AllKnown, Same}
 use Rattle.segments.specs.Paths.{IsPath, total_weight, IsBest}
-use Rattle.segments.specs.Relaxations.{Near, Tried, Found, Round, first_slot, Enough}
+use Rattle.segments.specs.Relaxations.{Near, Tried, Found, Round, Started, Enough}
 use Rattle.segments.proofs.BestPathsShort.{best_short, path_small}
-use Rattle.segments.proofs.DistanceSlots.{cell_cases, cell_once, least_known}
 use Rattle.segments.proofs.FirstBestPath.{first_best}
-use Rattle.segments.proofs.LeastNumbers.{least_once}
+use Rattle.segments.proofs.LeastNumbers.{least_once, least_known}
 use Rattle.segments.proofs.NodesReached.{path_node}
 use Rattle.segments.proofs.RoundExtends.{round_more, settled}
-use Rattle.segments.proofs.TableSlots.{by_slot, by_pair}
+use Rattle.segments.proofs.TableSlots.{by_slot}
 
-pub first_own : (n i x : ℕ) → x ≡ 0 → i / n ≡ i % n → x ≡ first_slot n i
-first_own n i x z e = z ∙ ap (λ b. cond b 0 no_path) (sym (eq-eqb (i / n) (i % n) e))
-
-pub first_other : (n i x : ℕ) → x ≡ no_path → (i / n ≡ i % n → ⊥) → x ≡ first_slot n i
-first_other n i x z ne = z ∙ ap (λ b. cond b 0 no_path) (sym (ne_eqb (i / n) (i % n) ne))
-
-pub found_same : (net : Net) (k n : ℕ) (xs ys : List ℕ) → Same (n * n) xs ys → Found net k n xs → Found net k n ys
-found_same net k n xs ys same f u v nu nv = subst (λ w. LeastOf (Near net k u v) (cell w)) (same (u * n + v) (digits_lt nu nv)) (f u v nu nv)
-
-pub exact_same : (net : Net) (n : ℕ) (xs ys : List ℕ) → Same (n * n) xs ys → Exact net n xs → Exact net n ys
-exact_same net n xs ys same f u v nu nv = subst (λ w. LeastOf (Far net u v) (cell w)) (same (u * n + v) (digits_lt nu nv)) (f u v nu nv)
+pub found_same : (net : Net) (k n : ℕ) (xs ys : List (Option ℕ)) → Same (n * n) xs ys → Found net k n xs → Found net k n ys
+found_same net k n xs ys same f u v nu nv = subst (LeastOf (Near net k u v)) (same (u * n + v) (digits_lt nu nv)) (f u v nu nv)
 
 module _ (net : Net) (sound : Sound net) where
   -- before the first round
-  pub start_found : (n : ℕ) (xs : List ℕ) → ((i : ℕ) → i < n * n → get_or xs i 0 ≡ first_slot n i) → Found net 0 n xs
-  start_found n xs f = by_pair n (λ u v i. LeastOf (Near net 0 u v) (cell (get_or xs i 0))) (λ i h. subst (λ w. LeastOf (Near net 0 (i / n) (i % n)) (cell w)) (sym (f i h)) (first (i / n) (i % n)))
+  pub start_found : (n : ℕ) (xs : List (Option ℕ)) → Started n xs → Found net 0 n xs
+  start_found n xs f u v nu nv = subst (LeastOf (Near net 0 u v)) (sym (f u v nu nv)) (first u v)
     where
       only : (u v w : ℕ) → Near net 0 u v w → (u ≡ v) × (w ≡ 0)
       only u v w r = go r.links r.path r.short r.weight
@@ -39,10 +29,10 @@ module _ (net : Net) (sound : Sound net) where
           go [] p s e = (p, sym e)
           go (l ∷ ls) p s e = absurd (omega arith)
 
-      first : (u v : ℕ) → LeastOf (Near net 0 u v) (cell (cond (eqb u v) 0 no_path))
+      first : (u v : ℕ) → LeastOf (Near net 0 u v) (cond (eqb u v) (Some 0) None)
       first u v = ⊎_elim
-          (λ (e : u ≡ v). subst (λ b. LeastOf (Near net 0 u v) (cell (cond b 0 no_path))) (sym (eq-eqb u v e)) (record { links = []; path = e; short = omega arith; weight = refl }, λ y r. omega arith))
-          (λ (ne : u ≡ v → ⊥). subst (λ b. LeastOf (Near net 0 u v) (cell (cond b 0 no_path))) (sym (ne_eqb u v ne)) (λ y r. ne (only u v y r).0))
+          (λ (e : u ≡ v). subst (λ b. LeastOf (Near net 0 u v) (cond b (Some 0) None)) (sym (eq-eqb u v e)) (record { links = []; path = e; short = omega arith; weight = refl }, λ y r. omega arith))
+          (λ (ne : u ≡ v → ⊥). subst (λ b. LeastOf (Near net 0 u v) (cond b (Some 0) None)) (sym (ne_eqb u v ne)) (λ y r. ne (only u v y r).0))
           (cases_eq u v)
 
   module _ (n : ℕ) (same : n ≡ net.nodes) where
@@ -52,44 +42,41 @@ module _ (net : Net) (sound : Sound net) where
     of_net : (u : ℕ) → u < n → u < net.nodes
     of_net u h = omega (arith, same)
 
-    module _ (k : ℕ) (old : List ℕ) (found : Found net k n old) where
+    module _ (k : ℕ) (old : List (Option ℕ)) (found : Found net k n old) where
       found_net : (u v : ℕ) → u < net.nodes → v < net.nodes → LeastOf (Near net k u v) (table_of n old u v)
       found_net u v nu nv = found u v (node u nu) (node v nv)
 
       pub found_known : k < n → AllKnown n old
-      found_known few = by_slot n (λ u v i. Known (get_or old i 0)) (λ u v nu nv. least_known (Near net k u v) (get_or old (u * n + v) 0) (found u v nu nv) (λ y r. omega (arith, (path_small net sound u v r.links r.path).0, r.short, r.weight, sound.nodes_high, same)))
+      found_known few = by_slot n (λ u v i. Known (cell old i)) (λ u v nu nv. least_known (Near net k u v) (table_of n old u v) (found u v nu nv) (λ y r. omega (arith, (path_small net sound u v r.links r.path).0, r.short, r.weight, sound.nodes_high, same)))
 
-      module _ (new : List ℕ) (round : Round net n old new) where
+      module _ (new : List (Option ℕ)) (round : Round net n old new) where
         pub round_found : Found net (k + 1) n new
         round_found u v nu nv = subst (λ j. LeastOf (Near net j u v) (table_of n new u v)) (omega arith) (round_more net sound k (table_of n old) found_net u v (table_of n new u v) (of_net u nu) (of_net v nv) (round u v nu nv))
 
         -- a round that changes nothing has the distances
         pub round_exact : Same (n * n) old new → Exact net n old
         round_exact still u v nu nv = settled net sound k (table_of n old) found_net
-            (λ a b na nb. subst (λ w. LeastOf (Tried net (table_of n old) a b) (cell w)) (sym (still (a * n + b) (digits_lt (node a na) (node b nb)))) (round a b (node a na) (node b nb)))
+            (λ a b na nb. subst (LeastOf (Tried net (table_of n old) a b)) (sym (still (a * n + b) (digits_lt (node a na) (node b nb)))) (round a b (node a na) (node b nb)))
             u v (of_net u nu) (of_net v nv)
 
         -- where k links are enough, a round changes nothing
         pub enough_still : (j : ℕ) → Enough net j → j ≤ k → Same (n * n) old new
-        enough_still j en le = by_slot n (λ u v i. get_or old i 0 ≡ get_or new i 0) (λ u v nu nv. cell_once _ _ (least_once (Near net k u v) (Near net (k + 1) u v) (table_of n old u v) (table_of n new u v) (found u v nu nv) (round_found u v nu nv)
+        enough_still j en le = by_slot n (λ u v i. cell old i ≡ cell new i) (λ u v nu nv. least_once (Near net k u v) (Near net (k + 1) u v) (table_of n old u v) (table_of n new u v) (found u v nu nv) (round_found u v nu nv)
             (λ w r. (w, record { links = r.links; path = r.path; short = omega (arith, r.short); weight = r.weight }, omega arith))
             (λ w r. let b = en u v (of_net u nu) (r.links, r.path) in
-            (total_weight b.0, record { links = b.0; path = b.1.path; short = omega (arith, b.2); weight = refl }, omega (arith, b.1.least r.links r.path, r.weight)))))
+            (total_weight b.0, record { links = b.0; path = b.1.path; short = omega (arith, b.2); weight = refl }, omega (arith, b.1.least r.links r.path, r.weight))))
 
       -- distances that paths of at most k links have
       pub found_enough : Exact net n old → Enough net k
       found_enough exact u v nu r =
           let nv = path_node net sound u v r.0 nu r.1 in
-          pick (get_or old (u * n + v) 0) u v r.0 nu nv r.1 (found_net u v nu nv) (exact u v (node u nu) (node v nv))
+          pick (table_of n old u v) u v r.0 r.1 (found_net u v nu nv) (exact u v (node u nu) (node v nv))
         where
-          pick : (x u v : ℕ) (ls : List Link) → u < net.nodes → v < net.nodes → IsPath net u ls v → LeastOf (Near net k u v) (cell x) → LeastOf (Far net u v) (cell x) → (ms : List Link) × IsBest net u ms v × (length ms ≤ k)
-          pick x u v ls nu nv p near far = ⊎_elim
-              (λ (a : (cell x ≡ Some x) × (x ≡ no_path → ⊥)).
-              let r = (subst (LeastOf (Near net k u v)) a.0 near).0 in
-              let f = subst (LeastOf (Far net u v)) a.0 far in
-              (r.links, record { path = r.path; least = λ ms q. omega (arith, r.weight, f.1 (total_weight ms) (record { links = ms; path = q; weight = refl })) }, r.short))
-              (λ (a : (cell x ≡ None) × (x ≡ no_path)). absurd (subst (LeastOf (Far net u v)) a.0 far (total_weight ls) (record { links = ls; path = p; weight = refl })))
-              (cell_cases x)
+          pick : (o : Option ℕ) (u v : ℕ) (ls : List Link) → IsPath net u ls v → LeastOf (Near net k u v) o → LeastOf (Far net u v) o → (ms : List Link) × IsBest net u ms v × (length ms ≤ k)
+          pick (Some x) u v ls p near far =
+              let r = near.0 in
+              (r.links, record { path = r.path; least = λ ms q. omega (arith, r.weight, far.1 (total_weight ms) (record { links = ms; path = q; weight = refl })) }, r.short)
+          pick None u v ls p near far = absurd (far (total_weight ls) (record { links = ls; path = p; weight = refl }))
 
   -- fewer links than nodes are enough
   pub enough_all : (n : ℕ) → n ≡ net.nodes → Enough net (n - 1)

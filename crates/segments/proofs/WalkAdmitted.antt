@@ -1,5 +1,5 @@
 -- A walk that no question denies has its source, grain, slices and list in range; one that is denied replies so.
-use Rattle.std.proofs.Common.{◌≡◌, ℕ, ◌*◌, ◌<◌, ◌≤◌, leb, List, length, Ok, Err, Result, sym, refl, subst}
+use Rattle.std.proofs.Common.{◌≡◌, ℕ, ◌*◌, ◌<◌, ◌≤◌, leb, List, length, Option, Ok, Err, Result, sym, refl, subst}
 use Rattle.std.proofs.lemmas.Bool.{ltb-true, leb-true, and_parts}
 use Rattle.questions.specs.declared.denial.Denial.{Denial}
 use Rattle.netmap.specs.Net.{Net}
@@ -33,7 +33,7 @@ admitted n source grain dist spread count e =
       short = leb-true count 10 y.1.1.1.0;
     }
 
-pub walk_denied : {V : Type 0} (net : Net) (alg : Algebra V) (source grain : ℕ) (cs dist : List ℕ) (spread : List (Spread V)) (n : ℕ) → n ≡ net.nodes → (x : Denial) (r : Result (Walk V) Denial)
+pub walk_denied : {V : Type 0} (net : Net) (alg : Algebra V) (source grain : ℕ) (cs : List ℕ) (dist : List (Option ℕ)) (spread : List (Option (Spread V))) (n : ℕ) → n ≡ net.nodes → (x : Denial) (r : Result (Walk V) Denial)
     → ◌≡◌ {A = Result (Unit {0}) Denial} (Err x) (reply (walk_denial n source grain (length dist) (length spread) (length cs)) tt) → r ≡ Err x → WalkCall net alg source grain cs dist dist spread spread r
 walk_denied net alg source grain cs dist spread n nodes x r e q =
     let d = denied (walk_denial n source grain (length dist) (length spread) (length cs)) x tt e in

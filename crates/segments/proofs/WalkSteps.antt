@@ -1,6 +1,6 @@
 -- A list is walked entry by entry, up to the first that is illegal.
 use Rattle.std.proofs.Common.{◌≡◌, ℕ, ◌+◌, ◌*◌, ◌<◌, ◌≤◌, List, [], ◌∷◌, ◌++◌, length, get_or, take, Some, None, sym, ap, ◌∙◌, subst, arith}
-use Rattle.std.proofs.lemmas.List.{take_more, take_all, length_push}
+use Rattle.std.proofs.lemmas.List.{take_more, length_push}
 use Rattle.netmap.specs.Net.{Net, Sound}
 use Rattle.segments.specs.declared.figures.Leg.{Leg}
 use Rattle.segments.specs.declared.figures.Walk.{Walk}
@@ -50,6 +50,3 @@ module _ {V : Type 0} (net : Net) (alg : Algebra V) (source grain : ℕ) (cs : L
       legal = so.walked.legal;
       illegal = λ h s. none h (subst (λ m. Segment net alg m (get_or cs i 0) h) (sym so.walked.end) s);
     }
-
-  pub walked_all : (i : ℕ) (w : Walk V) → length cs ≤ i → WalkedTo i w → Walked net alg source grain cs w
-  walked_all i w past so = subst (λ ds. Walked net alg source grain ds w) (take_all i cs past) so.walked

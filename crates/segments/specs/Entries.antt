@@ -1,14 +1,12 @@
 -- What the entry of a segment list does at a node, and what it adds to the figures of the entries before it.
-use Rattle.std.specs.Prelude.{◌≡◌, ℕ, ◌+◌, Bool, true, false, List, Some, None, Option, ◌≢◌, slice_index}
+use Rattle.std.specs.Prelude.{◌≡◌, ℕ, ◌+◌, Bool, true, false, Some, None, Option, ◌≢◌}
 use Rattle.netmap.specs.declared.link.Link.{Link}
 use Rattle.netmap.specs.Net.{Net, link_at}
 use Rattle.segments.specs.declared.figures.Leg.{Leg}
 use Rattle.segments.specs.declared.figures.Spread.{Spread}
 use Rattle.segments.specs.declared.figures.Walk.{Walk}
 use Rattle.segments.specs.Algebra.{Algebra}
-use Rattle.segments.specs.Distances.{no_path}
 use Rattle.segments.specs.Segments.{Segment, grains_of}
-use Rattle.segments.specs.Spreads.{slot}
 
 -- does the place hold a link that begins at u?
 abbrev pub Leaves : Net → ℕ → ℕ → Bool → Type 0
@@ -21,10 +19,10 @@ module _ {V : Type 0} where
   Entry net alg u c (Some h) = Segment net alg u c h
   Entry net alg u c None = (h : Leg V) → Segment net alg u c h → ⊥
 
-  -- the figures in a slot, if there is a distance
-  abbrev pub NodeLeg : Algebra V → List ℕ → List (Spread V) → ℕ → ℕ → Option (Leg V) → Type 0
-  NodeLeg alg dist spread place c (Some h) = (slice_index dist place ≢ no_path) × (h.to ≡ c) × (h.delay.0 ≡ (slot alg spread place).delay.0) × (h.value ≡ (slot alg spread place).value)
-  NodeLeg alg dist spread place c None = slice_index dist place ≡ no_path
+  -- to the node of the code, with the figures of a slot, if it holds any
+  abbrev pub node_leg : ℕ → Option (Spread V) → Option (Leg V)
+  node_leg c None = None
+  node_leg c (Some s) = Some (record { to = c; delay = s.delay; value = s.value })
 
   pub record Along (net : Net) (alg : Algebra V) (place : ℕ) (h : Leg V) : Type 0 where
     pub link : Link

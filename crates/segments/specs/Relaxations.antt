@@ -1,8 +1,8 @@
 -- Rounds of relaxation (Bellman and Ford): from the distances over at most k links to those over one link more.
-use Rattle.std.specs.Prelude.{◌≡◌, ℕ, ◌+◌, ◌*◌, ◌/◌, ◌%◌, ◌<◌, ◌≤◌, min, cond, ◌⊎◌, List, length, Some, Option, ◌==◌, ◌≢◌, slice_index}
+use Rattle.std.specs.Prelude.{◌≡◌, ℕ, ◌+◌, ◌*◌, ◌<◌, ◌≤◌, cond, ◌⊎◌, List, length, Some, None, Option, ◌==◌, ◌≢◌}
 use Rattle.netmap.specs.declared.link.Link.{Link}
 use Rattle.netmap.specs.Net.{Net}
-use Rattle.segments.specs.Distances.{LeastOf, no_path, table_of}
+use Rattle.segments.specs.Distances.{LeastOf, lesser_of, cell, table_of}
 use Rattle.segments.specs.Paths.{Holds, IsPath, Reached, total_weight, IsBest}
 
 module _ (net : Net) where
@@ -31,25 +31,26 @@ module _ (net : Net) where
   TriedTo old p u v w = (old u v ≡ Some w) ⊎ ((r : Relaxed old u v w) × (r.holds.0 < p))
 
 -- each pair of n nodes has its least over at most k links
-abbrev pub Found : Net → ℕ → ℕ → List ℕ → Type 0
+abbrev pub Found : Net → ℕ → ℕ → List (Option ℕ) → Type 0
 Found net k n xs = (u v : ℕ) → u < n → v < n → LeastOf (Near net k u v) (table_of n xs u v)
 
 -- a round from one table to the next
-abbrev pub Round : Net → ℕ → List ℕ → List ℕ → Type 0
+abbrev pub Round : Net → ℕ → List (Option ℕ) → List (Option ℕ) → Type 0
 Round net n old new = (u v : ℕ) → u < n → v < n → LeastOf (Tried net (table_of n old) u v) (table_of n new u v)
 
 -- the lesser of what a slot holds and a weight with the distance behind it
-abbrev pub nearer : ℕ → ℕ → ℕ → ℕ
-nearer best weight rest = cond (rest == no_path) best (min best (weight + rest))
+abbrev pub nearer : Option ℕ → ℕ → Option ℕ → Option ℕ
+nearer best weight None = best
+nearer best weight (Some rest) = Some (lesser_of best (weight + rest))
 
 -- a link is tried in the row of its tail, and the other rows stay
-pub record Swept (n : ℕ) (l : Link) (old new after : List ℕ) : Type 0 where
-  pub row : (v : ℕ) → v < n → slice_index after (l.tail * n + v) ≡ nearer (slice_index new (l.tail * n + v)) l.weight (slice_index old (l.head * n + v))
-  pub others : (u v : ℕ) → v < n → (u ≢ l.tail) → slice_index after (u * n + v) ≡ slice_index new (u * n + v)
+pub record Swept (n : ℕ) (l : Link) (old new after : List (Option ℕ)) : Type 0 where
+  pub row : (v : ℕ) → v < n → cell after (l.tail * n + v) ≡ nearer (cell new (l.tail * n + v)) l.weight (cell old (l.head * n + v))
+  pub others : (u v : ℕ) → v < n → (u ≢ l.tail) → cell after (u * n + v) ≡ cell new (u * n + v)
 
--- before the first round: the way from each node to itself
-abbrev pub first_slot : ℕ → ℕ → ℕ
-first_slot n i = cond (i / n == i % n) 0 no_path
+-- before the first round: the way from each node to itself, and no other
+abbrev pub Started : ℕ → List (Option ℕ) → Type 0
+Started n xs = (u v : ℕ) → u < n → v < n → table_of n xs u v ≡ cond (u == v) (Some 0) None
 
 -- where a path is, a best path of at most k links is
 abbrev pub Enough : Net → ℕ → Type 0

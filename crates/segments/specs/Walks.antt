@@ -51,10 +51,10 @@ module _ {V : Type 0} (net : Net) (alg : Algebra V) (source grain : ℕ) (cs : L
   WalkReply (Err d) = (i : ℕ) × (d ≡ of_list EntryLegal i) × Stuck i
 
   -- denied by one of the questions, which leaves the working slices as they were, or walked
-  abbrev pub WalkBy : Option Denial → List ℕ → List ℕ → List (Spread V) → List (Spread V) → Result (Walk V) Denial → Type 0
+  abbrev pub WalkBy : Option Denial → List (Option ℕ) → List (Option ℕ) → List (Option (Spread V)) → List (Option (Spread V)) → Result (Walk V) Denial → Type 0
   WalkBy (Some d) dist dist_after spread spread_after r = (r ≡ Err d) × (dist_after ≡ dist) × (spread_after ≡ spread)
   WalkBy None dist dist_after spread spread_after r = WalkReply r
 
   -- the working slices before and after, and the reply
-  abbrev pub WalkCall : List ℕ → List ℕ → List (Spread V) → List (Spread V) → Result (Walk V) Denial → Type 0
+  abbrev pub WalkCall : List (Option ℕ) → List (Option ℕ) → List (Option (Spread V)) → List (Option (Spread V)) → Result (Walk V) Denial → Type 0
   WalkCall dist dist_after spread spread_after r = WalkBy (walk_denial net.nodes source grain (length dist) (length spread) (length cs)) dist dist_after spread spread_after r

@@ -1,5 +1,5 @@
 // What segments and segment lists come to: values and delays.
-ghost use Rattle.std.specs.Prelude.{◌≡◌, ◌<◌, length, slice_set};
+ghost use Rattle.std.specs.Prelude.{◌≡◌, ◌<◌, length, None, slice_index_or, slice_set};
 
 use crate::units::{Grains, Labels};
 use netmap::Microseconds;
@@ -36,8 +36,20 @@ pub struct Walk<V> {
     pub figures: Figures<V>,
 }
 
+// Reads a slot of the second working slice.
+pub(crate) fn read_slot<V: Tariff>(spread: &[Option<Spread<V>>], slot: usize) -> Option<Spread<V>>
+    requires { slot < length spread.now }
+    ensures { result ≡ slice_index_or spread.now slot None }
+{
+    spread[slot]
+}
+
 // Writes a slot of the second working slice.
-pub(crate) fn write_slot<V: Tariff>(spread: &mut [Spread<V>], slot: usize, figures: Spread<V>)
+pub(crate) fn write_slot<V: Tariff>(
+    spread: &mut [Option<Spread<V>>],
+    slot: usize,
+    figures: Option<Spread<V>>,
+)
     requires { slot < length spread.old }
     ensures { spread.new ≡ slice_set spread.old slot figures }
 {

@@ -13,5 +13,6 @@ pub mod walking;
 
 pub use figures::{Figures, Leg, Spread, Walk};
 pub use order::Order;
-pub use units::{Grains, Labels};
+pub use routing::{Routes, route};
+pub use units::{Grain, Grains, Labels};
 pub use walking::walk;

@@ -12,10 +12,16 @@ pub struct Grains(pub u32);
 #[derive(Clone, Copy, PartialEq, Eq, Debug)]
 pub struct Labels(pub u16);
 
+// The length of a grain, which is at least a microsecond.
+#[derive(Clone, Copy, PartialEq, Eq, Debug)]
+pub struct Grain {
+    pub length: Microseconds,
+    ghost some: { 1 ≤ length.0 },
+}
+
 // A delay in grains of the given length. Public for the search above this crate.
-pub fn round_up(delay: Microseconds, grain: Microseconds) -> Grains
-    requires { 1 ≤ grain.0 }
-    ensures { result.0 ≡ grains_of grain.0 delay.0 }
+pub fn round_up(delay: Microseconds, grain: Grain) -> Grains
+    ensures { result.0 ≡ grains_of grain.length.0 delay.0 }
 {
-    Grains(delay.0.div_ceil(grain.0))
+    Grains(delay.0.div_ceil(grain.length.0))
 }

@@ -6,10 +6,9 @@ ghost use Rattle.segments.specs.Entries.{Stays, Extended};
 ghost use Rattle.segments.specs.Spreads.{Routed};
 ghost use Rattle.segments.specs.Walks.{WalkCall, WalkReply, walk_denial};
 
-use crate::entry::entry;
 use crate::figures::{Figures, Leg, Spread, Walk};
-use crate::routing::route;
-use crate::units::{Grains, Labels, round_up};
+use crate::routing::{Routes, route};
+use crate::units::{Grain, Grains, Labels, round_up};
 use netmap::{Map, Microseconds};
 use questions::{Denial, Question};
 use tariff::Tariff;
@@ -61,13 +60,12 @@ fn stay<V: Tariff>(source: u8) -> Walk<V>
 }
 
 // One entry more: delays add up, and each is rounded up to grains by itself.
-fn extend<V: Tariff>(walked: Walk<V>, leg: Leg<V>, grain: Microseconds) -> Walk<V>
-    requires grain { 1 ≤ grain.0 }
+fn extend<V: Tariff>(walked: Walk<V>, leg: Leg<V>, grain: Grain) -> Walk<V>
     requires step { leg.delay.0 ≤ 6300000 }
     requires delay { walked.figures.delay.0 ≤ 63000000 }
     requires grains { walked.figures.grains.0 ≤ 63000000 }
     requires labels { walked.figures.labels.0 ≤ 10 }
-    ensures { Extended (algebra V.good V.joining) grain.0 walked leg result }
+    ensures { Extended (algebra V.good V.joining) grain.length.0 walked leg result }
 {
     let figures = walked.figures;
     let steps = round_up(leg.delay, grain);
@@ -82,30 +80,23 @@ fn extend<V: Tariff>(walked: Walk<V>, leg: Leg<V>, grain: Microseconds) -> Walk<
     }
 }
 
-// The list from its source, entry by entry, up to the first that is illegal where the one before ended.
-fn follow<M: Map, V: Tariff>(
-    map: &M,
-    source: u8,
-    grain: Microseconds,
-    list: &[u16],
-    n: usize,
-    dist: &[u32],
-    spread: &[Spread<V>],
-) -> Result<Walk<V>, Denial>
-    requires routed { Routed (M.meaning map.now) (algebra V.good V.joining) n dist.now spread.now }
-    requires from { source < n }
-    requires grain { 1 ≤ grain.0 }
-    requires short { length list.now ≤ 10 }
-    ensures { WalkReply (M.meaning map.now) (algebra V.good V.joining) source grain.0 list.now result }
-{
-    let mut walked = stay(source);
-    for (i, code) in list.iter().enumerate() {
-        match entry(map, n, dist, spread, walked.end as usize, *code) {
-            Some(leg) => walked = extend(walked, leg, grain),
-            None => return Err(Denial::of_list(Question::EntryLegal, i)),
+impl<'a, M: Map, V: Tariff> Routes<'a, M, V> {
+    // The list from its source, entry by entry, up to the first that is illegal where the one before ended.
+    fn follow(&self, source: u8, grain: Grain, list: &[u16]) -> Result<Walk<V>, Denial>
+        requires routed { Routed (M.meaning self.now.map.now) (algebra V.good V.joining) self.now.nodes self.now.spread.now }
+        requires from { source < self.now.nodes }
+        requires short { length list.now ≤ 10 }
+        ensures { WalkReply (M.meaning self.now.map.now) (algebra V.good V.joining) source grain.length.0 list.now result }
+    {
+        let mut walked = stay(source);
+        for (i, code) in list.iter().enumerate() {
+            match self.entry(walked.end as usize, *code) {
+                Some(leg) => walked = extend(walked, leg, grain),
+                None => return Err(Denial::of_list(Question::EntryLegal, i)),
+            }
         }
+        Ok(walked)
     }
-    Ok(walked)
 }
 
 // Walks the list from the source, with working slices of n × n slots for n nodes.
@@ -115,13 +106,14 @@ pub fn walk<M: Map, V: Tariff>(
     source: u8,
     grain: Microseconds,
     list: &[u16],
-    dist: &mut [u32],
-    spread: &mut [Spread<V>],
+    dist: &mut [Option<u32>],
+    spread: &mut [Option<Spread<V>>],
 ) -> Result<Walk<V>, Denial>
     ensures { WalkCall (M.meaning map.now) (algebra V.good V.joining) source grain.0 list.now dist.old dist.new spread.old spread.new result }
 {
-    let n = map.nodes();
-    check_walk(n, source, grain, dist.len(), spread.len(), list.len())?;
-    route(map, n, dist, spread);
-    follow(map, source, grain, list, n, dist, spread)
+    let nodes = map.nodes();
+    check_walk(nodes, source, grain, dist.len(), spread.len(), list.len())?;
+    route(map, nodes, dist, spread);
+    let routes = Routes { map, nodes, spread };
+    routes.follow(source, Grain { length: grain }, list)
 }

@@ -1,4 +1,5 @@
-use Rattle.std.proofs.Common.{◌≡◌, ◌<◌, length, get_or, sym, arith}
+use Rattle.std.proofs.Common.{◌≡◌, ◌<◌, length, sym, arith}
+use Rattle.segments.specs.Distances.{cell}
 use Rattle.segments.proofs.TableSlots.{delays_more}
 use Rattle.segments.proofs.distances.carry_over.Goals as goal
 
@@ -7,4 +8,4 @@ loop-i-preserved g c =
     let i = c.loop-i.i in
     let xs = c.args.dist.now in
     let within : i < length c.loop-i.spread = omega arith in
-    delays_more (λ k w. get_or xs k 0 ≡ w) c.keep.result c.loop-i.spread c.write_slot.new.spread i within c.write_slot.ensures c.loop-i.invariant (sym c.keep.ensures)
+    delays_more (λ k w. cell xs k ≡ w) c.keep.result c.loop-i.spread i within c.loop-i.invariant (sym c.keep.ensures)

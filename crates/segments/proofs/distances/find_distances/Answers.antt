@@ -1,7 +1,8 @@
 use Rattle.std.proofs.Common.{◌≡◌, ◌+◌, ◌*◌, ◌<◌, ◌≤◌, sym, refl, ◌∙◌, subst, ⊎_elim, arith}
 use Rattle.std.proofs.lemmas.Bool.{cases_lt}
 use Rattle.segments.specs.Distances.{Exact, delays}
-use Rattle.segments.proofs.RoundsEnd.{found_same, exact_same, start_found, found_known, round_found, round_exact, enough_still, found_enough, enough_all}
+use Rattle.segments.proofs.RoundsEnd.{found_same, start_found, found_known, round_found, round_exact, enough_still, found_enough, enough_all}
+use Rattle.segments.proofs.TableSlots.{same_all, same_first}
 use Rattle.segments.proofs.distances.find_distances.Goals as goal
 
 pub loop-k-init : goal.loop-k-init
@@ -23,23 +24,21 @@ round-requires g c =
       known = found_known net sound n same c.loop-k.k c.loop-k.dist c.loop-k.invariant.0 c.loop-k-test.true;
     }
 
-pub returns-then-not-take_over : goal.returns-then-not-take_over
-returns-then-not-take_over g c =
+pub returns-then-is_settled : goal.returns-then-is_settled
+returns-then-is_settled g c =
     let net = g.M.Map.meaning c.args.map.now in
     let sound = g.M.Map.sound c.args.map.now in
     let n = c.args.n in
     let same = c.requires.nodes in
     let k = c.loop-k.k in
     let old = c.loop-k.dist in
-    let new = delays c.round.new.spread in
-    let still = c.take_over.ensures.none c.if-not-take_over.true in
-    let exact : Exact net n old = round_exact net sound n same k old c.loop-k.invariant.0 new c.round.ensures still in
+    let spread = c.round.new.spread in
+    let long = subst (λ m. n * n ≤ m) (sym (c.loop-k.auto.dist ∙ c.start_distances.auto.dist)) c.requires.sized in
+    let still = same_all (n * n) old spread long (c.is_settled.ensures.yes c.if-is_settled.true) in
+    let exact : Exact net n old = round_exact net sound n same k old c.loop-k.invariant.0 (delays spread) c.round.ensures still in
     record {
-      measured = record {
-        nodes = same;
-        sized = subst (λ m. n * n ≤ m) (sym (c.take_over.auto.dist ∙ c.loop-k.auto.dist ∙ c.start_distances.auto.dist)) c.requires.sized;
-        exact = exact_same net n old c.take_over.new.dist (λ i h. still i h ∙ sym (c.take_over.ensures.taken i h)) exact;
-      };
+      measured = record { nodes = same; sized = long; exact = exact };
+      kept = still;
       rounds = record { links = k; made = refl; enough = found_enough net sound n same k old c.loop-k.invariant.0 exact; least = c.loop-k.invariant.1 };
     }
 
@@ -51,11 +50,13 @@ loop-k-preserved g c =
     let same = c.requires.nodes in
     let k = c.loop-k.k in
     let old = c.loop-k.dist in
-    let new = delays c.round.new.spread in (
-      found_same net (k + 1) n new c.take_over.new.dist (λ i h. sym (c.take_over.ensures.taken i h)) (round_found net sound n same k old c.loop-k.invariant.0 new c.round.ensures),
+    let spread = c.round.new.spread in
+    let new = delays spread in
+    let long = subst (λ m. n * n ≤ m) (sym (c.loop-k.auto.dist ∙ c.start_distances.auto.dist)) c.requires.sized in (
+      found_same net (k + 1) n new c.take_over.new.dist (λ i h. sym (c.take_over.ensures i h)) (round_found net sound n same k old c.loop-k.invariant.0 new c.round.ensures),
       λ j e. ⊎_elim
           (λ (h : k < j). omega arith)
-          (λ (h : j ≤ k). absurd (c.take_over.ensures.some c.if-not-take_over.false (enough_still net sound n same k old c.loop-k.invariant.0 new c.round.ensures j e h)))
+          (λ (h : j ≤ k). absurd (c.is_settled.ensures.no c.if-is_settled.false (same_first (n * n) old spread long (enough_still net sound n same k old c.loop-k.invariant.0 new c.round.ensures j e h))))
           (cases_lt k j),
     )
 

@@ -1,15 +1,25 @@
-use Rattle.std.proofs.Common.{◌≡◌, ◌<◌, length, arith}
-use Rattle.segments.specs.Relaxations.{first_slot}
-use Rattle.segments.proofs.RoundsEnd.{first_own, first_other}
-use Rattle.segments.proofs.TableSlots.{set_more}
+use Rattle.std.proofs.Common.{◌≡◌, ◌+◌, ◌*◌, ◌/◌, ◌%◌, ◌<◌, length, set, Some, None, sym, ap, ◌∙◌, subst, ⊎_elim, arith, rules, get_or-set_other, get_or-set_same}
+use lib.Arith.{digits_div, digits_mod}
+use Rattle.std.proofs.lemmas.Bool.{cases_eq}
+use Rattle.segments.specs.Distances.{table_of}
 use Rattle.segments.proofs.distances.start_distances.Goals as goal
-use Rattle.segments.proofs.distances.start_distances.Goals.{then-i-n, else-i-n}
 
-pub loop-i-preserved : goal.loop-i-preserved
-loop-i-preserved c =
+pub loop-u-preserved : goal.loop-u-preserved
+loop-u-preserved c =
     let n = c.args.n in
-    let i = c.loop-i.i in
-    let x = c.if-i-n.dist in
-    let within : i < length c.loop-i.dist = omega arith in
-    let here : x ≡ first_slot n i = elim c.if-i-n.branch [ then-i-n w ↦ first_own n i x w.dist-is w.if-i-n.true | else-i-n w ↦ first_other n i x w.dist-is w.if-i-n.false ] in
-    set_more (λ k y. y ≡ first_slot n k) 0 x c.loop-i.dist i within c.loop-i.invariant here
+    let xs = c.loop-u.dist in
+    let u = c.loop-u.u in
+    let nu = c.loop-u-test.true in
+    let i = u * n + u in
+    let within : i < length xs = search rules in (
+      λ a h. ⊎_elim
+          (λ (e : a ≡ u). subst (λ m. table_of n (set xs i (Some 0)) m m ≡ Some 0) (sym e) (get_or-set_same xs i (Some 0) None within))
+          (λ (ne : a ≡ u → ⊥).
+          let na : a < n = omega arith in
+          get_or-set_other xs i (a * n + a) (Some 0) None (λ z. ne (sym (digits_div a na) ∙ ap (λ m. m / n) z ∙ digits_div u nu)) ∙ c.loop-u.invariant.0 a (omega arith))
+          (cases_eq a u),
+      λ a b na nb ne.
+          get_or-set_other xs i (a * n + b) (Some 0) None
+          (λ z. ne (sym (digits_div a nb) ∙ ap (λ m. m / n) z ∙ digits_div u nu ∙ sym (sym (digits_mod a nb) ∙ ap (λ m. m % n) z ∙ digits_mod u nu)))
+          ∙ c.loop-u.invariant.1 a b na nb ne,
+    )

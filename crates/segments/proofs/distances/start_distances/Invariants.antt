@@ -1,6 +1,8 @@
-use Rattle.std.proofs.Common.{◌≡◌, ℕ, ◌<◌, get_or}
-use Rattle.segments.specs.Relaxations.{first_slot}
+use Rattle.std.proofs.Common.{◌≡◌, ℕ, ◌<◌, Some, None}
+use Rattle.segments.specs.Distances.{table_of}
 use Rattle.segments.proofs.distances.start_distances.Given as goal
 
-abbrev pub invariant-loop-i : goal.invariant-loop-i
-invariant-loop-i l = (k : ℕ) → k < l.i → get_or l.dist k 0 ≡ first_slot l.n k
+abbrev pub invariant-loop-u : goal.invariant-loop-u
+invariant-loop-u l =
+    ((a : ℕ) → a < l.u → table_of l.n l.dist a a ≡ Some 0)
+    × ((a b : ℕ) → a < l.n → b < l.n → (a ≡ b → ⊥) → table_of l.n l.dist a b ≡ None)

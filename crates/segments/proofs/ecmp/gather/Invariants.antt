@@ -1,6 +1,0 @@
-use Rattle.segments.specs.Algebra.{algebra}
-use Rattle.segments.proofs.FiguresGathered.{Gathered}
-use Rattle.segments.proofs.ecmp.gather.Given as goal
-
-abbrev pub invariant-loop-place : goal.invariant-loop-place
-invariant-loop-place g l = Gathered (g.M.Map.meaning l.map) (algebra g.V.Ranking.good g.V.Tariff.joining) l.n l.spread l.u l.v l.place l.found
