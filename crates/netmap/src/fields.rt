@@ -13,36 +13,26 @@ use questions::{Denial, Layer, Question};
 // What an empty place has for its tail and for its head.
 const NO_NODE: u8 = 0xff;
 
-// The figures of a place.
-#[derive(Clone, Copy)]
-struct Figures {
-    weight: u16,
-    delay: Microseconds,
-    figure: u32,
-}
-
-fn read_ends(bytes: &[u8]) -> (u8, u8)
-    requires { length bytes.now ≡ 2 }
-    ensures tail { result.0 ≡ slice_index bytes.now 0 }
-    ensures head { result.1 ≡ slice_index bytes.now 1 }
+// What two bytes of ends and ten of figures say.
+fn link_of(ends: &[u8], figures: &[u8]) -> Link
+    requires ends { length ends.now ≡ 2 }
+    requires figures { length figures.now ≡ 10 }
+    ensures tail { result.tail ≡ slice_index ends.now 0 }
+    ensures head { result.head ≡ slice_index ends.now 1 }
+    ensures weight { result.weight ≡ two_at figures.now 0 }
+    ensures delay { result.delay.0 ≡ four_at figures.now 2 }
+    ensures figure { result.figure ≡ four_at figures.now 6 }
 {
-    let [tail, head] = bytes else { unreachable() };
-    (*tail, *head)
-}
-
-fn read_figures(bytes: &[u8]) -> Figures
-    requires { length bytes.now ≡ 10 }
-    ensures weight { result.weight ≡ two_at bytes.now 0 }
-    ensures delay { result.delay.0 ≡ four_at bytes.now 2 }
-    ensures figure { result.figure ≡ four_at bytes.now 6 }
-{
-    let [w0, w1, d0, d1, d2, d3, f0, f1, f2, f3] = bytes else {
+    let &[tail, head] = ends else { unreachable() };
+    let &[w0, w1, d0, d1, d2, d3, f0, f1, f2, f3] = figures else {
         unreachable()
     };
-    Figures {
-        weight: u16::from_be_bytes([*w0, *w1]),
-        delay: Microseconds(u32::from_be_bytes([*d0, *d1, *d2, *d3])),
-        figure: u32::from_be_bytes([*f0, *f1, *f2, *f3]),
+    Link {
+        tail,
+        head,
+        weight: u16::from_be_bytes([w0, w1]),
+        delay: Microseconds(u32::from_be_bytes([d0, d1, d2, d3])),
+        figure: u32::from_be_bytes([f0, f1, f2, f3]),
     }
 }
 
@@ -54,13 +44,7 @@ fn read_link(bytes: &[u8], places: usize, place: usize) -> Link
 {
     let at = 4 + 2 * place;
     let from = 4 + 2 * places + 10 * place;
-    let (tail, head) = read_ends(&bytes[at..at + 2]);
-    let Figures {
-        weight,
-        delay,
-        figure,
-    } = read_figures(&bytes[from..from + 10]);
-    Link::new(tail, head, weight, delay, figure)
+    link_of(&bytes[at..at + 2], &bytes[from..from + 10])
 }
 
 fn is_marked_empty(link: Link) -> bool
@@ -99,12 +83,12 @@ fn check_header(bytes: &[u8]) -> Result<Sizes, Denial>
         (λ s. (first_no (header_questions bytes.now) ≡ None) × (s.nodes ≡ two_at bytes.now 0) × (s.places ≡ two_at bytes.now 2))
         (λ d. first_no (header_questions bytes.now) ≡ Some d) }
 {
-    let [n0, n1, p0, p1, ..] = bytes else {
+    let &[n0, n1, p0, p1, ..] = bytes else {
         return Err(Denial::new(Question::HeaderBytes, Layer::File, bytes.len()));
     };
     let sizes = Sizes {
-        nodes: u16::from_be_bytes([*n0, *n1]) as usize,
-        places: u16::from_be_bytes([*p0, *p1]) as usize,
+        nodes: usize::from(u16::from_be_bytes([n0, n1])),
+        places: usize::from(u16::from_be_bytes([p0, p1])),
     };
     sizes.check()?;
     if bytes.len() != 4 + 12 * sizes.places {

@@ -1,13 +1,12 @@
 // Opening an image, and what makes it a map.
-ghost use Rattle.std.specs.Prelude.{◌≡◌, ◌+◌, ◌<◌, ◌≤◌, length, Some, None, MatchResult};
-ghost use Rattle.questions.specs.Asking.{reply, unless, Checks};
-ghost use Rattle.netmap.specs.Changes.{with_place, read_denial, put_denial, put_reply, after_put, remove_denial, remove_reply, after_remove};
+ghost use Rattle.std.specs.Prelude.{◌≡◌, ◌<◌, Some, None, MatchResult};
+ghost use Rattle.questions.specs.Asking.{reply, unless};
+ghost use Rattle.netmap.specs.Changes.{with_place, put_denial, put_reply, after_put, remove_denial, remove_reply, after_remove};
 ghost use Rattle.netmap.specs.Images.{image_net, image_sound, bytes_of};
-ghost use Rattle.netmap.specs.Layout.{encode, image_size, Images};
+ghost use Rattle.netmap.specs.Layout.{encode, Images};
 ghost use Rattle.netmap.specs.Net.{Fit, places as place_count, link_at};
 ghost use Rattle.netmap.specs.Opening.{no_places};
 ghost use Rattle.netmap.specs.Reading.{image_denial, decode};
-ghost use Rattle.netmap.specs.Spans.{Written, PlaceWritten};
 
 use super::Image;
 use crate::checks::check_filled;
@@ -40,6 +39,7 @@ impl<'a> Image<'a> {
         Ok(())
     }
 
+    // Through a shared borrow, after which the bytes are known to be as they were.
     fn examined(&self) -> Result<Sizes, Denial>
         ensures { MatchResult result
             (λ s. (image_denial (bytes_of self.now) ≡ None) × Images (bytes_of self.now) (decode s.nodes s.places (bytes_of self.now)))

@@ -1,7 +1,7 @@
 // Opening a record table, and what makes it a map.
 ghost use Rattle.std.specs.Prelude.{◌≡◌, ◌<◌, length, replicate, Some, None, slice_set};
-ghost use Rattle.questions.specs.Asking.{reply, unless, Checks};
-ghost use Rattle.netmap.specs.Changes.{with_place, read_denial, put_denial, put_reply, after_put, remove_denial, remove_reply, after_remove};
+ghost use Rattle.questions.specs.Asking.{reply, unless};
+ghost use Rattle.netmap.specs.Changes.{with_place, put_denial, put_reply, after_put, remove_denial, remove_reply, after_remove};
 ghost use Rattle.netmap.specs.Net.{Fit, places as place_count, link_at};
 ghost use Rattle.netmap.specs.Opening.{no_places, all_empty, size_denial};
 ghost use Rattle.netmap.specs.Tables.{table_net, table_sound, records_of};

@@ -8,10 +8,10 @@ returns c =
     let bs = c.args.bytes.now in
     let at = ends_at c.args.place in
     let from = figures_at c.args.places c.args.place in
-    let t = c.read_ends-tail.ensures.tail ∙ part_at bs at 2 0 at (omega arith) (omega arith) in
-    let h = c.read_ends-tail.ensures.head ∙ part_at bs at 2 1 (at + 1) (omega arith) (omega arith) in
-    let w = c.read_figures-weight.ensures.weight ∙ part_two bs from 10 0 from (omega arith) (omega arith) in
-    let d = c.read_figures-weight.ensures.delay ∙ part_four bs from 10 2 (from + 2) (omega arith) (omega arith) in
-    let f = c.read_figures-weight.ensures.figure ∙ part_four bs from 10 6 (from + 6) (omega arith) (omega arith) in
-    c.new.ensures
-    ∙ (λ i. record { tail = t i; head = h i; weight = w i; delay = microseconds (d i); figure = f i })
+    let says = c.link_of.ensures in
+    let t = says.tail ∙ part_at bs at 2 0 at (omega arith) (omega arith) in
+    let h = says.head ∙ part_at bs at 2 1 (at + 1) (omega arith) (omega arith) in
+    let w = says.weight ∙ part_two bs from 10 0 from (omega arith) (omega arith) in
+    let d = says.delay ∙ part_four bs from 10 2 (from + 2) (omega arith) (omega arith) in
+    let f = says.figure ∙ part_four bs from 10 6 (from + 6) (omega arith) (omega arith) in
+    λ i. record { tail = t i; head = h i; weight = w i; delay = microseconds (d i); figure = f i }
