@@ -14,13 +14,6 @@ pub denied : {A : Type 0} (d : Option Denial) (x : Denial) (a : A) → ◌≡◌
 denied None x a e = cc
 denied (Some d) x a e = cc
 
--- what no denial tells of the reply and of what is left
-pub grants : {A : Type 0} (d : Option Denial) (a : A) → d ≡ None → ◌≡◌ {A = Result A Denial} (Ok a) (reply d a)
-grants d a e = let f : Option Denial → Result _ Denial = λ x. reply x a in sym (ap f e)
-
-pub changes : {A : Type 0} (d : Option Denial) (a b : A) → d ≡ None → a ≡ unless d a b
-changes d a b e = let f : Option Denial → _ = λ x. unless x a b in sym (ap f e)
-
 -- none answered no: each answered yes
 abbrev EachYes : List Asked → Type 0
 EachYes [] = Unit {0}
