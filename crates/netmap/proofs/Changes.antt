@@ -1,33 +1,21 @@
 -- What the questions of opening, reading and putting show where all are answered yes.
-use Rattle.std.proofs.Common.{◌≡◌, ℕ, ◌<◌, ◌≤◌, ltb, leb, Some, None, Ok, Err, Result, sym, ◌∙◌, subst, ⊎_elim, arith, ltb-true, lt-ltb, ne_eqb, le-leb, leb-true}
+use Rattle.std.proofs.Common.{◌≡◌, ℕ, ◌≤◌, ltb, None, arith, ltb-true, lt-ltb, ne_eqb, le-leb, leb-true}
 use borrow.Author.Tests.{eqb-false, not-true}
-use Rattle.std.proofs.lemmas.List.{get_or_past}
-use Rattle.std.proofs.lemmas.Bool.{and_parts, cases_lt}
-use Rattle.questions.specs.declared.denial.Denial.{Denial}
+use Rattle.std.proofs.lemmas.Bool.{and_parts}
 use Rattle.netmap.specs.declared.link.Link.{Link}
-use Rattle.questions.specs.Asking.{first_no, reply, Checks}
-use Rattle.netmap.specs.Changes.{place_questions, link_questions, put_questions, read_denial, put_denial}
-use Rattle.netmap.specs.Net.{Net, SoundLink, Fit, link_at, places}
-use Rattle.netmap.specs.Opening.{size_questions, size_denial}
-use Rattle.questions.proofs.Asking.{granted, denied, all_yes}
-use Rattle.netmap.proofs.Soundness.{fit_some}
+use Rattle.questions.specs.Asking.{first_no}
+use Rattle.netmap.specs.Changes.{link_questions}
+use Rattle.netmap.specs.Net.{SoundLink}
+use Rattle.netmap.specs.Opening.{size_denial}
+use Rattle.questions.proofs.Asking.{all_yes}
 
 pub record InLimits (n m : ℕ) : Type 0 where
   pub low : 1 ≤ n
   pub high : n ≤ 64
   pub few : m ≤ 256
 
-pub sizes_pass : (n m : ℕ) → size_denial n m ≡ None → InLimits n m
-sizes_pass n m e =
-    let y = all_yes (size_questions n m) e in
-    let t = and_parts (leb 1 n) (leb n 64) y.0 in
-    record { low = leb-true 1 n t.0; high = leb-true n 64 t.1; few = leb-true m 256 y.1.0 }
-
 pub sizes_granted : (n m : ℕ) → InLimits n m → size_denial n m ≡ None
 sizes_granted n m s = simp (le-leb _ _ s.low, le-leb _ _ s.high, le-leb _ _ s.few)
-
-pub place_passes : (m p : ℕ) → first_no (place_questions m p) ≡ None → p < m
-place_passes m p e = ltb-true p m (all_yes (place_questions m p) e).0
 
 -- a weight comes from 16 bits, so no question asks for its upper limit
 pub link_passes : (n : ℕ) (l : Link) (p : ℕ) → first_no (link_questions n l p) ≡ None → l.weight ≤ 65535 → SoundLink n l
@@ -46,27 +34,3 @@ link_passes n l p e high =
 
 pub link_granted : (n : ℕ) (l : Link) (p : ℕ) → SoundLink n l → first_no (link_questions n l p) ≡ None
 link_granted n l p s = simp (lt-ltb _ _ s.tail, lt-ltb _ _ s.head, ne_eqb _ _ s.apart, lt-ltb 0 l.weight (omega (arith, s.weight_low)), le-leb _ _ s.delay, le-leb _ _ s.figure)
-
--- as a map asks the questions, of its own count of places
-module _ (net : Net) (m p : ℕ) (count : m ≡ places net) where
-  pub read_checks : (r : Result (Unit {0}) Denial) → r ≡ reply (first_no (place_questions m p)) tt → Checks (read_denial net p) (p < m) r
-  read_checks (Ok u) e =
-      let none = granted (first_no (place_questions m p)) u tt e in
-      (subst (λ x. first_no (place_questions x p) ≡ None) count none, place_passes m p none)
-  read_checks (Err x) e = subst (λ c. first_no (place_questions c p) ≡ Some x) count (denied (first_no (place_questions m p)) x tt e)
-
-  pub put_checks : (l : Link) → l.weight ≤ 65535 → (r : Result (Unit {0}) Denial) → r ≡ reply (first_no (put_questions net.nodes m p l)) tt → Checks (put_denial net p l) ((p < m) × Fit net.nodes (Some l)) r
-  put_checks l high (Ok u) e =
-      let none = granted (first_no (put_questions net.nodes m p l)) u tt e in
-      let within = ltb-true p m (all_yes (put_questions net.nodes m p l) none).0 in
-      let asked : first_no (put_questions net.nodes m p l) ≡ first_no (link_questions net.nodes l p) = simp (lt-ltb p m within) in
-      (subst (λ x. first_no (put_questions net.nodes x p l) ≡ None) count none, (within, fit_some net.nodes l (link_passes net.nodes l p (sym asked ∙ none) high)))
-  put_checks l high (Err x) e = subst (λ c. first_no (put_questions net.nodes c p l) ≡ Some x) count (denied (first_no (put_questions net.nodes m p l)) x tt e)
-
--- a place whose read is denied does not exist
-pub read_nothing : (net : Net) (p : ℕ) (d : Denial) → read_denial net p ≡ Some d → link_at net p ≡ None
-read_nothing net p d e =
-    ⊎_elim
-    (λ (h : p < places net). let none : read_denial net p ≡ None = simp (lt-ltb p (places net) h) in let z : ◌≡◌ {A = ℕ} 0 1 = cc in absurd (omega arith))
-    (λ (h : places net ≤ p). get_or_past net.links p None h)
-    (cases_lt p (places net))

@@ -1,6 +1,5 @@
 -- The bytes of one place and the fields that they say.
-use Rattle.std.proofs.Common.{◌≡◌, ℕ, ◌+◌, ◌-◌, ◌*◌, ◌/◌, ◌%◌, ◌<◌, ◌≤◌, Bool, true, false, cond, ◌&&◌, eqb, List, [], ◌∷◌, get_or, take, drop, Some, None, Option, refl, ap, ◌∙◌, arith, below_none, below_more, ne_eqb, eqb-true}
-use Rattle.std.proofs.lemmas.List.{get_or-take, get_or-drop}
+use Rattle.std.proofs.Common.{◌≡◌, ℕ, ◌+◌, ◌*◌, ◌/◌, ◌%◌, ◌<◌, ◌≤◌, Bool, true, false, cond, ◌&&◌, eqb, List, [], ◌∷◌, get_or, Some, None, Option, refl, ap, ◌∙◌, arith, below_none, below_more, ne_eqb, eqb-true}
 use Rattle.std.proofs.lemmas.Bool.{and_parts}
 use Rattle.questions.specs.declared.denial.Question.TheVariants.{EmptyBlank}
 use Rattle.netmap.specs.declared.link.Link.{Link}
@@ -31,24 +30,6 @@ four_back a b c d h g i j = (omega arith, omega arith, omega arith, omega arith)
 
 at_index : (bs : List ℕ) (i j v : ℕ) → i ≡ j → get_or bs j 0 ≡ v → get_or bs i 0 ≡ v
 at_index bs i j v e h = ap (λ x. get_or bs x 0) e ∙ h
-
--- a byte of a part, and numbers in a part
-pub part_at : (bs : List ℕ) (i w k j : ℕ) → k < w → i + k ≡ j → get_or (take (i + w - i) (drop i bs)) k 0 ≡ get_or bs j 0
-part_at bs i w k j h e = get_or-take (i + w - i) (drop i bs) k 0 (omega arith) ∙ get_or-drop i bs k 0 ∙ ap (λ x. get_or bs x 0) e
-
-pub part_two : (bs : List ℕ) (i w k j : ℕ) → k + 2 ≤ w → i + k ≡ j → two_at (take (i + w - i) (drop i bs)) k ≡ two_at bs j
-part_two bs i w k j h e =
-    let a = part_at bs i w k j (omega arith) e in
-    let b = part_at bs i w (k + 1) (j + 1) (omega arith) (omega arith) in
-    omega (arith, a, b)
-
-pub part_four : (bs : List ℕ) (i w k j : ℕ) → k + 4 ≤ w → i + k ≡ j → four_at (take (i + w - i) (drop i bs)) k ≡ four_at bs j
-part_four bs i w k j h e =
-    let a = part_at bs i w k j (omega arith) e in
-    let b = part_at bs i w (k + 1) (j + 1) (omega arith) (omega arith) in
-    let c = part_at bs i w (k + 2) (j + 2) (omega arith) (omega arith) in
-    let d = part_at bs i w (k + 3) (j + 3) (omega arith) (omega arith) in
-    omega (arith, a, b, c, d)
 
 -- what the bytes of a place say, from the fields that they hold
 read_fields : (bs : List ℕ) (m k : ℕ) (o : Option Link) → AtPlace bs m k o → (t h w d f : ℕ) → w ≤ 65535 → d ≤ 1000000 → f ≤ 1000000

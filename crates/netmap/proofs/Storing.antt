@@ -1,5 +1,5 @@
 -- Storing a network, its sizes and then place by place.
-use Rattle.std.proofs.Common.{◌≡◌, ℕ, ◌+◌, ◌-◌, ◌*◌, ◌<◌, ◌≤◌, List, ◌++◌, length, get_or, take, drop, sym, refl, ap, ◌∙◌, subst, ⊎_elim, arith, length-drop}
+use Rattle.std.proofs.Common.{◌≡◌, ℕ, ◌+◌, ◌-◌, ◌*◌, ◌<◌, ◌≤◌, List, ◌++◌, length, get_or, take, drop, sym, ap, ◌∙◌, subst, ⊎_elim, arith, length-drop}
 use lib.Seq.{take-append-le}
 use Rattle.std.proofs.lemmas.List.{same_lists, get_or-take, get_or-drop, get_or_default, length-take-le, take-append-drop, take_all, get_or_append_left, get_or-append-add}
 use Rattle.std.proofs.lemmas.Bool.{cases_lt, cases_eq}
@@ -38,9 +38,6 @@ pub record Filled (old new : List ℕ) (net : Net) (p : ℕ) : Type 0 where
   pub sizes : (j : ℕ) → j < 4 → get_or new j 0 ≡ get_or old j 0
   pub place : (k : ℕ) → k < p → AtPlace new (places net) k (link_at net k)
   pub past : (i : ℕ) → image_size (places net) ≤ i → get_or new i 0 ≡ get_or old i 0
-
-pub filled_none : (old : List ℕ) (net : Net) → Filled old old net 0
-filled_none old net = record { long = refl; sizes = λ j h. refl; place = λ k h. absurd (omega arith); past = λ i h. refl }
 
 pub filled_more : (old bs new : List ℕ) (net : Net) (p : ℕ) → Filled old bs net p → p < places net → PlaceWritten bs new (places net) p (link_at net p) → Filled old new net (p + 1)
 filled_more old bs new net p s lt w =

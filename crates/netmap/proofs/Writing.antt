@@ -1,44 +1,15 @@
 -- What bytes hold once some of them are written.
-use Rattle.std.proofs.Common.{◌≡◌, ℕ, ◌+◌, ◌<◌, ◌≤◌, List, ◌++◌, length, get_or, set, None, Option, sym, refl, ap, ◌∙◌, subst, inl, inr, ⊎_elim, arith, length-set, get_or-set_other, get_or-set_same}
+use Rattle.std.proofs.Common.{◌≡◌, ℕ, ◌+◌, ◌<◌, ◌≤◌, List, ◌++◌, length, get_or, set, None, Option, sym, ap, ◌∙◌, subst, inl, inr, ⊎_elim, arith, length-set, get_or-set_other, get_or-set_same}
 use Rattle.std.proofs.lemmas.Bool.{cases_lt, cases_eq}
 use Rattle.netmap.specs.declared.link.Link.{Link}
 use Rattle.netmap.specs.Changes.{with_place}
-use Rattle.netmap.specs.Layout.{two_bytes, ends, figures, encode, image_size}
+use Rattle.netmap.specs.Layout.{two_bytes, encode, image_size}
 use Rattle.netmap.specs.Net.{Fit, Net, Sound, places, link_at}
 use Rattle.netmap.specs.Reading.{decode, ends_at, figures_at}
 use Rattle.netmap.specs.Spans.{Written, AtPlace, Outside, PlaceWritten}
 use Rattle.netmap.proofs.Decoding.{decode_places, decode_laid_out}
 use Rattle.netmap.proofs.Layouts.{LaysOut, lays_out_encode, image_lays_out}
 use Rattle.netmap.proofs.Soundness.{sound_with}
-
-pub written_none : (old : List ℕ) (at : ℕ) (s : List ℕ) → Written old old at s 0
-written_none old at s = record { long = refl; inside = λ k h. absurd (omega arith); below = λ k h. refl; past = λ k h. refl }
-
-pub written_more : (old new : List ℕ) (at : ℕ) (s : List ℕ) (w v : ℕ) → Written old new at s w → at + w < length old → v ≡ get_or s w 0 → Written old (set new (at + w) v) at s (w + 1)
-written_more old new at s w v h lt is =
-    let lt' : at + w < length new = omega (arith, h.long) in
-    record {
-      long = length-set new (at + w) v ∙ h.long;
-      inside = λ k g. ⊎_elim
-          (λ (e : k ≡ w). subst (λ x. get_or (set new (at + w) v) (at + x) 0 ≡ get_or s x 0) (sym e) (get_or-set_same new (at + w) v 0 lt' ∙ is))
-          (λ (ne : k ≡ w → ⊥). get_or-set_other new (at + w) (at + k) v 0 (λ q. ne (omega arith)) ∙ h.inside k (omega arith))
-          (cases_eq k w);
-      below = λ k g. get_or-set_other new (at + w) k v 0 (λ q. omega arith) ∙ h.below k g;
-      past = λ k g. get_or-set_other new (at + w) k v 0 (λ q. omega arith) ∙ h.past k (omega arith);
-    }
-
--- the ends and then the figures of a place
-pub place_written : (old mid new : List ℕ) (m p : ℕ) (o : Option Link) → p < m → Written old mid (ends_at p) (ends o) 2 → Written mid new (figures_at m p) (figures o) 10 → PlaceWritten old new m p o
-place_written old mid new m p o lt a b = record {
-  long = b.long ∙ a.long;
-  here = record {
-    ends = λ j h. b.below (ends_at p + j) (omega arith) ∙ a.inside j h;
-    figures = λ j h. b.inside j h;
-  };
-  elsewhere = λ i out.
-      ⊎_elim (λ (h : i < figures_at m p). b.below i h) (λ (h : figures_at m p + 10 ≤ i). b.past i h) out.figures
-      ∙ ⊎_elim (λ (h : i < ends_at p). a.below i h) (λ (h : ends_at p + 2 ≤ i). a.past i h) out.ends;
-}
 
 pub written_as : (old new : List ℕ) (at : ℕ) (s t : List ℕ) (v w : ℕ) → s ≡ t → v ≡ w → Written old new at s v → Written old new at t w
 written_as old new at s t v w e f h = subst (λ x. Written old new at t x) f (subst (λ x. Written old new at x v) e h)

@@ -24,8 +24,12 @@ link_questions n l p =
 abbrev pub put_questions : ℕ → ℕ → ℕ → Link → List Asked
 put_questions n count p l = place_questions count p ++ link_questions n l p
 
+-- of what a place holds
+abbrev pub held_questions : Option Link → ℕ → List Asked
+held_questions o p = asks (of_map PlaceFilled p) (is_some o) ∷ []
+
 abbrev pub filled_question : Net → ℕ → List Asked
-filled_question net p = asks (of_map PlaceFilled p) (is_some (link_at net p)) ∷ []
+filled_question net p = held_questions (link_at net p) p
 
 abbrev pub remove_questions : Net → ℕ → List Asked
 remove_questions net p = place_questions (places net) p ++ filled_question net p

@@ -1,5 +1,5 @@
 -- What opening a map asks of its sizes, and the network that it leaves.
-use Rattle.std.specs.Prelude.{ℕ, ◌&&◌, List, [], ◌∷◌, take, replicate, None, Option, nat_le}
+use Rattle.std.specs.Prelude.{ℕ, ◌&&◌, List, [], ◌∷◌, replicate, Some, None, Option, nat_le}
 use Rattle.questions.specs.declared.denial.Denial.{Denial}
 use Rattle.questions.specs.declared.denial.Question.TheVariants.{NodeCount, PlaceCount}
 use Rattle.netmap.specs.declared.link.Link.{Link}
@@ -14,9 +14,10 @@ no_places = record { nodes = 1; links = [] }
 abbrev pub all_empty : ℕ → ℕ → Net
 all_empty nodes count = record { nodes = nodes; links = replicate count None }
 
--- the network of the first records
-abbrev pub first_places : ℕ → ℕ → List (Option Link) → Net
-first_places nodes count records = record { nodes = nodes; links = take count records }
+-- the network of the records, with no places until the node count is settled
+abbrev pub net_over : Option ℕ → List (Option Link) → Net
+net_over None records = no_places
+net_over (Some n) records = record { nodes = n; links = records }
 
 abbrev pub size_questions : ℕ → ℕ → List Asked
 size_questions nodes count =

@@ -5,12 +5,13 @@ use Rattle.questions.specs.declared.denial.Denial.{Denial}
 use Rattle.questions.specs.declared.denial.Question.TheVariants.{HeaderBytes, ImageLength, EmptyBlank}
 use Rattle.netmap.specs.declared.link.Link.{Link}
 use Rattle.netmap.specs.declared.link.Microseconds.{Microseconds}
+use Rattle.netmap.specs.declared.sizes.Sizes.{Sizes}
 use Rattle.questions.specs.Asking.{Asked, asks, first_no}
 use Rattle.netmap.specs.Changes.{link_questions}
 use Rattle.questions.specs.Denials.{of_map, of_file}
 use Rattle.netmap.specs.Layout.{image_size}
 use Rattle.netmap.specs.Net.{Net}
-use Rattle.netmap.specs.Opening.{size_questions}
+use Rattle.netmap.specs.Opening.{no_places, size_questions}
 
 abbrev pub two_at : List ℕ → ℕ → ℕ
 two_at bs i = slice_index bs i * 256 + slice_index bs (i + 1)
@@ -51,6 +52,11 @@ place_of l = cond (marked_empty l) None (Some l)
 
 abbrev pub decode : ℕ → ℕ → List ℕ → Net
 decode nodes count bs = record { nodes = nodes; links = map (λ p. place_of (link_in count bs p)) (range_with_len 0 count) }
+
+-- with no places until the sizes are settled
+abbrev pub net_in : Option Sizes → List ℕ → Net
+net_in None bs = no_places
+net_in (Some s) bs = decode s.nodes s.places bs
 
 -- of an empty place its figures, of another its link
 abbrev pub field_questions : ℕ → Link → ℕ → List Asked

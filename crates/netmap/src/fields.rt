@@ -1,75 +1,50 @@
 // The bytes of an image, taken apart as fields and made from them.
-ghost use Rattle.std.specs.Prelude.{◌≡◌, ◌<◌, ◌≤◌, length, Some, None, MatchResult, slice_index};
+ghost use Rattle.std.specs.Prelude.{◌≡◌, ◌+◌, ◌<◌, ◌≤◌, length, Some, None, MatchResult, slice_index};
 ghost use Rattle.questions.specs.Asking.{first_no, reply};
 ghost use Rattle.netmap.specs.Layout.{ends, figures, image_size, Images};
 ghost use Rattle.netmap.specs.Reading.{two_at, four_at, link_in, marked_empty, place_of, field_questions, header_questions, image_denial, decode};
+ghost use Rattle.netmap.specs.Spans.{Written, PlaceWritten};
 
-use crate::checks::{check_link, check_sizes};
+use crate::checks::check_link;
 use crate::link::{Link, Microseconds};
-use questions::{Denial, Question};
-
-// The counts at the front of an image.
-#[derive(Clone, Copy)]
-pub(crate) struct Sizes {
-    pub(crate) nodes: usize,
-    pub(crate) places: usize,
-}
+use crate::sizes::Sizes;
+use questions::{Denial, Layer, Question};
 
 // What an empty place has for its tail and for its head.
 const NO_NODE: u8 = 0xff;
 
-// The figures of a place.
-#[derive(Clone, Copy)]
-struct Figures {
-    weight: u16,
-    delay: Microseconds,
-    figure: u32,
-}
-
-fn read_ends(bytes: &[u8]) -> (u8, u8)
-    requires { length bytes.now ≡ 2 }
-    ensures { (result.0 ≡ slice_index bytes.now 0) × (result.1 ≡ slice_index bytes.now 1) }
+// What two bytes of ends and ten of figures say.
+fn link_of(ends: &[u8], figures: &[u8]) -> Link
+    requires ends { length ends.now ≡ 2 }
+    requires figures { length figures.now ≡ 10 }
+    ensures tail { result.tail ≡ slice_index ends.now 0 }
+    ensures head { result.head ≡ slice_index ends.now 1 }
+    ensures weight { result.weight ≡ two_at figures.now 0 }
+    ensures delay { result.delay.0 ≡ four_at figures.now 2 }
+    ensures figure { result.figure ≡ four_at figures.now 6 }
 {
-    let [tail, head] = bytes else { unreachable() };
-    (*tail, *head)
-}
-
-fn read_figures(bytes: &[u8]) -> Figures
-    requires { length bytes.now ≡ 10 }
-    ensures weight { result.weight ≡ two_at bytes.now 0 }
-    ensures delay { result.delay.0 ≡ four_at bytes.now 2 }
-    ensures figure { result.figure ≡ four_at bytes.now 6 }
-{
-    let [w0, w1, d0, d1, d2, d3, f0, f1, f2, f3] = bytes else {
+    let &[tail, head] = ends else { unreachable() };
+    let &[w0, w1, d0, d1, d2, d3, f0, f1, f2, f3] = figures else {
         unreachable()
     };
-    Figures {
-        weight: u16::from_be_bytes([*w0, *w1]),
-        delay: Microseconds(u32::from_be_bytes([*d0, *d1, *d2, *d3])),
-        figure: u32::from_be_bytes([*f0, *f1, *f2, *f3]),
+    Link {
+        tail,
+        head,
+        weight: u16::from_be_bytes([w0, w1]),
+        delay: Microseconds(u32::from_be_bytes([d0, d1, d2, d3])),
+        figure: u32::from_be_bytes([f0, f1, f2, f3]),
     }
 }
 
 // The fields of a place, whatever they hold.
 fn read_link(bytes: &[u8], places: usize, place: usize) -> Link
-    requires { (place < places) × (image_size places ≤ length bytes.now) }
+    requires within { place < places }
+    requires room { image_size places ≤ length bytes.now }
     ensures { result ≡ link_in places bytes.now place }
 {
     let at = 4 + 2 * place;
     let from = 4 + 2 * places + 10 * place;
-    let (tail, head) = read_ends(&bytes[at..at + 2]);
-    let Figures {
-        weight,
-        delay,
-        figure,
-    } = read_figures(&bytes[from..from + 10]);
-    Link {
-        tail,
-        head,
-        weight,
-        delay,
-        figure,
-    }
+    link_of(&bytes[at..at + 2], &bytes[from..from + 10])
 }
 
 fn is_marked_empty(link: Link) -> bool
@@ -79,7 +54,8 @@ fn is_marked_empty(link: Link) -> bool
 }
 
 pub(crate) fn read_place(bytes: &[u8], places: usize, place: usize) -> Option<Link>
-    requires { (place < places) × (image_size places ≤ length bytes.now) }
+    requires within { place < places }
+    requires room { image_size places ≤ length bytes.now }
     ensures { result ≡ place_of (link_in places bytes.now place) }
 {
     let link = read_link(bytes, places, place);
@@ -97,7 +73,7 @@ fn check_fields(nodes: usize, link: Link, place: usize) -> Result<(), Denial>
         return check_link(nodes, link, place);
     }
     if link.weight != 0 || link.delay.0 != 0 || link.figure != 0 {
-        return Err(Denial::of_map(Question::EmptyBlank, place));
+        return Err(Denial::new(Question::EmptyBlank, Layer::Map, place));
     }
     Ok(())
 }
@@ -107,16 +83,18 @@ fn check_header(bytes: &[u8]) -> Result<Sizes, Denial>
         (λ s. (first_no (header_questions bytes.now) ≡ None) × (s.nodes ≡ two_at bytes.now 0) × (s.places ≡ two_at bytes.now 2))
         (λ d. first_no (header_questions bytes.now) ≡ Some d) }
 {
-    let [n0, n1, p0, p1, ..] = bytes else {
-        return Err(Denial::of_file(Question::HeaderBytes, bytes.len()));
+    let &[n0, n1, p0, p1, ..] = bytes else {
+        return Err(Denial::new(Question::HeaderBytes, Layer::File, bytes.len()));
     };
-    let nodes = u16::from_be_bytes([*n0, *n1]) as usize;
-    let places = u16::from_be_bytes([*p0, *p1]) as usize;
-    check_sizes(nodes, places)?;
-    if bytes.len() != 4 + 12 * places {
-        return Err(Denial::of_file(Question::ImageLength, bytes.len()));
+    let sizes = Sizes {
+        nodes: usize::from(u16::from_be_bytes([n0, n1])),
+        places: usize::from(u16::from_be_bytes([p0, p1])),
+    };
+    sizes.check()?;
+    if bytes.len() != 4 + 12 * sizes.places {
+        return Err(Denial::new(Question::ImageLength, Layer::File, bytes.len()));
     }
-    Ok(Sizes { nodes, places })
+    Ok(sizes)
 }
 
 // The counts of the network whose image the bytes are.
@@ -126,13 +104,14 @@ pub(crate) fn examine(bytes: &[u8]) -> Result<Sizes, Denial>
         (λ d. image_denial bytes.now ≡ Some d) }
 {
     let sizes = check_header(bytes)?;
+    // a denial tells the number of its place
     for place in 0..sizes.places {
         check_fields(sizes.nodes, read_link(bytes, sizes.places, place), place)?;
     }
     Ok(sizes)
 }
 
-pub(crate) fn end_bytes(held: Option<Link>) -> [u8; 2]
+fn end_bytes(held: Option<Link>) -> [u8; 2]
     ensures { result ≡ ends held }
 {
     match held {
@@ -141,7 +120,7 @@ pub(crate) fn end_bytes(held: Option<Link>) -> [u8; 2]
     }
 }
 
-pub(crate) fn figure_bytes(held: Option<Link>) -> [u8; 10]
+fn figure_bytes(held: Option<Link>) -> [u8; 10]
     ensures { result ≡ figures held }
 {
     match held {
@@ -153,4 +132,21 @@ pub(crate) fn figure_bytes(held: Option<Link>) -> [u8; 10]
             [w0, w1, d0, d1, d2, d3, f0, f1, f2, f3]
         }
     }
+}
+
+pub(crate) fn write_run(bytes: &mut [u8], at: usize, run: &[u8])
+    requires { at + length run.now ≤ length bytes.old }
+    ensures { Written bytes.old bytes.new at run.now (length run.now) }
+{
+    bytes[at..at + run.len()].copy_from_slice(run);
+}
+
+// Writes one of so many places.
+pub(crate) fn write_place(bytes: &mut [u8], places: usize, place: usize, held: Option<Link>)
+    requires within { place < places }
+    requires room { image_size places ≤ length bytes.old }
+    ensures { PlaceWritten bytes.old bytes.new places place held }
+{
+    write_run(bytes, 4 + 2 * place, &end_bytes(held));
+    write_run(bytes, 4 + 2 * places + 10 * place, &figure_bytes(held));
 }

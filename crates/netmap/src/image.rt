@@ -1,18 +1,18 @@
 // The image: a map on the caller's own map bytes.
-ghost use Rattle.std.specs.Prelude.{◌≡◌, ◌-◌, ◌*◌, ◌<◌, ◌≤◌, length};
+ghost use Rattle.std.specs.Prelude.{◌≡◌, ◌<◌};
 ghost use Rattle.netmap.specs.Layout.{encode};
-ghost use Rattle.netmap.specs.Net.{Net, Sound};
-ghost use Rattle.netmap.specs.Reading.{decode};
+ghost use Rattle.netmap.specs.Net.{Net, Sound, places as place_count};
+ghost use Rattle.netmap.specs.Reading.{net_in};
+
+use crate::sizes::Sizes;
 
 pub mod calls;
 
-// Until it is opened, and while a place is written, it means a network with no places.
 #[derive(Drop)]
 pub struct Image<'a> {
-    nodes: usize,
-    places: usize,
+    // none until it is opened, and while a place is written
+    sizes: Option<Sizes>,
     bytes: &'a mut [u8],
-    ghost long: { 12 * places ≤ length bytes.now - 4 },
-    ghost ok: { ∥ Sound (decode nodes places bytes.now) ∥₁ },
-    ghost whole: { (0 < places → encode (decode nodes places bytes.now) ≡ bytes.now) },
+    ghost ok: { ∥ Sound (net_in sizes bytes.now) ∥₁ },
+    ghost whole: { (0 < place_count (net_in sizes bytes.now) → encode (net_in sizes bytes.now) ≡ bytes.now) },
 }

@@ -7,6 +7,7 @@ pub mod image;
 pub mod link;
 pub mod listing;
 pub mod map;
+mod sizes;
 pub mod storage;
 pub mod table;
 

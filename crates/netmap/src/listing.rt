@@ -1,29 +1,13 @@
 // The text of a map, for the person who enrols a carrier.
 ghost use Rattle.std.specs.Prelude.{◌≡◌, ◌++◌, IfOk, Some, string_bytes, OnOk};
-ghost use Rattle.netmap.specs.Texts.{counts_text, link_text, place_text, places_text, listed, Reports};
+ghost use Rattle.netmap.specs.Texts.{link_text, place_text, places_text, listed, Reports};
 
 use crate::image::Image;
 use crate::link::Link;
 use crate::map::{Map, held};
+use crate::sizes::Sizes;
 use std::alloc::{AllocError, Global};
 use std::fmt;
-
-// The counts of a map, shown as `map NODES PLACES`.
-#[derive(Clone, Copy)]
-struct Counts {
-    nodes: usize,
-    places: usize,
-}
-
-impl fmt::Display for Counts {
-    ghost output = { λ c. Some (counts_text c.nodes c.places) };
-
-    fn fmt<W: fmt::Write>(&self, f: &mut fmt::Formatter<W>) -> fmt::Result {
-        let nodes = self.nodes;
-        let places = self.places;
-        write!(f, "map {nodes} {places}")
-    }
-}
 
 // A link at its place, shown as `PLACE TAIL HEAD WEIGHT DELAY FIGURE`.
 #[derive(Clone, Copy)]
@@ -36,53 +20,44 @@ impl fmt::Display for Row {
     ghost output = { λ r. Some (link_text r.place r.link) };
 
     fn fmt<W: fmt::Write>(&self, f: &mut fmt::Formatter<W>) -> fmt::Result {
-        let place = self.place;
-        let tail = self.link.tail;
-        let head = self.link.head;
-        let weight = self.link.weight;
-        let delay = self.link.delay.0;
-        let figure = self.link.figure;
-        write!(f, "{place} {tail} {head} {weight} {delay} {figure}")
+        let Row { place, link } = *self;
+        write!(
+            f,
+            "{place} {} {} {} {} {}",
+            link.tail, link.head, link.weight, link.delay.0, link.figure
+        )
     }
 }
 
 // Adds the line of a place to the text; an empty place has none.
-fn add_place(
-    heap: Global,
-    text: &mut String,
-    place: usize,
-    held: Option<Link>,
-) -> Result<(), AllocError>
+fn add_place(text: &mut String, place: usize, held: Option<Link>) -> Result<(), AllocError>
     ensures { OnOk result (string_bytes text.new ≡ string_bytes text.old ++ place_text place held) }
 {
-    match held {
-        None => Ok(()),
-        Some(link) => {
-            let row = Row { place, link };
-            let line = format!(in heap; "{row}\n")?;
-            text.push_str(line.as_str())
-        }
+    if let Some(link) = held {
+        writeln!(text, "{}", Row { place, link })?;
     }
+    Ok(())
 }
 
 // The counts of a map, then a line for each filled place.
 pub fn listing<M: Map>(heap: Global, map: &M) -> Result<String, AllocError>
     ensures { IfOk result (λ text. string_bytes text ≡ listed (M.meaning map.now)) }
 {
-    let counts = Counts {
+    let sizes = Sizes {
         nodes: map.nodes(),
         places: map.places(),
     };
-    let mut text = format!(in heap; "{counts}\n")?;
-    add_places(heap, &mut text, map)?;
+    let mut text = format!(in heap; "{sizes}\n")?;
+    add_places(&mut text, map)?;
     Ok(text)
 }
 
-fn add_places<M: Map>(heap: Global, text: &mut String, map: &M) -> Result<(), AllocError>
+fn add_places<M: Map>(text: &mut String, map: &M) -> Result<(), AllocError>
     ensures { OnOk result (string_bytes text.new ≡ string_bytes text.old ++ places_text 0 (M.meaning map.now).links) }
 {
+    // a line begins with the number of its place
     for place in 0..map.places() {
-        add_place(heap, text, place, held(map, place))?;
+        add_place(text, place, held(map, place))?;
     }
     Ok(())
 }

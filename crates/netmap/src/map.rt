@@ -35,8 +35,5 @@ pub trait Map {
 pub fn held<M: Map>(map: &M, place: usize) -> Option<Link>
     ensures { result ≡ link_at (M.meaning map.now) place }
 {
-    match map.read(place) {
-        Ok(held) => held,
-        Err(_) => None,
-    }
+    map.read(place).unwrap_or(None)
 }

@@ -5,9 +5,9 @@ ghost use Rattle.netmap.specs.Layout.{image_size};
 ghost use Rattle.netmap.specs.Net.{places as place_count};
 ghost use Rattle.netmap.specs.Storing.{store_denial, stored, OpensAs};
 
-use crate::image::Image;
+use crate::fields::{write_place, write_run};
 use crate::map::{Map, held};
-use questions::{Denial, Question};
+use questions::{Denial, Layer, Question};
 
 // Writes the image of a map at the front of the space, and says how long it is.
 pub fn store<M: Map>(map: &M, space: &mut [u8]) -> Result<usize, Denial>
@@ -17,23 +17,22 @@ pub fn store<M: Map>(map: &M, space: &mut [u8]) -> Result<usize, Denial>
 {
     let size = 4 + 12 * map.places();
     if space.len() < size {
-        return Err(Denial::of_file(Question::StoreSpace, space.len()));
+        return Err(Denial::new(Question::StoreSpace, Layer::File, space.len()));
     }
     lay_out(map, space);
     Ok(size)
 }
 
-// Writes through an image that is not open, as a change of a place does.
 fn lay_out<M: Map>(map: &M, space: &mut [u8])
     requires { image_size (place_count (M.meaning map.now)) ≤ length space.old }
     ensures after { space.new ≡ stored (M.meaning map.now) space.old }
     ensures reopens { OpensAs (take (image_size (place_count (M.meaning map.now))) space.new) (M.meaning map.now) }
 {
     let places = map.places();
-    let mut image = Image::over(space);
-    image.write_run(0, &(map.nodes() as u16).to_be_bytes());
-    image.write_run(2, &(places as u16).to_be_bytes());
+    write_run(space, 0, &(map.nodes() as u16).to_be_bytes());
+    write_run(space, 2, &(places as u16).to_be_bytes());
+    // a place is read and written by its number
     for place in 0..places {
-        image.write_place(places, place, held(map, place));
+        write_place(space, places, place, held(map, place));
     }
 }

@@ -1,19 +1,15 @@
 // The record table: a map on the caller's own records, one to a place.
-ghost use Rattle.std.specs.Prelude.{◌≤◌, length};
 ghost use Rattle.netmap.specs.Net.{Net, Sound};
-ghost use Rattle.netmap.specs.Opening.{first_places};
+ghost use Rattle.netmap.specs.Opening.{net_over};
 
 use crate::link::Link;
 
 pub mod calls;
 
-// Until it is opened it means a network of one node and no places.
 #[derive(Drop)]
 pub struct RecordTable<'a> {
-    nodes: usize,
-    // how many of the records are in use: none before it is opened, then all
-    places: usize,
+    // none until it is opened
+    nodes: Option<usize>,
     records: &'a mut [Option<Link>],
-    ghost within: { places ≤ length records.now },
-    ghost ok: { ∥ Sound (first_places nodes places records.now) ∥₁ },
+    ghost ok: { ∥ Sound (net_over nodes records.now) ∥₁ },
 }

@@ -20,7 +20,7 @@ fn reported(
     text: &str,
 ) -> Result<(), Fail> {
     assert!(rt; count <= 64);
-    let got = report(rt.alloc(), &mut bytes[0..count])?;
+    let got = report(rt.alloc(), &mut bytes[..count])?;
     assert_eq!(rt; got.as_str(), text);
     Ok(())
 }

@@ -8,18 +8,11 @@ use Rattle.questions.specs.Asking.{Asked, asks, first_no, reply, unless}
 -- what a reply tells of the denial
 pub granted : {A : Type 0} (d : Option Denial) (x a : A) → ◌≡◌ {A = Result A Denial} (Ok x) (reply d a) → d ≡ None
 granted None x a e = refl
-granted (Some d) x a e = let z : ◌≡◌ {A = ℕ} 0 1 = cc in absurd (omega arith)
+granted (Some d) x a e = cc
 
 pub denied : {A : Type 0} (d : Option Denial) (x : Denial) (a : A) → ◌≡◌ {A = Result A Denial} (Err x) (reply d a) → d ≡ Some x
-denied None x a e = let z : ◌≡◌ {A = ℕ} 0 1 = cc in absurd (omega arith)
+denied None x a e = cc
 denied (Some d) x a e = cc
-
--- what no denial tells of the reply and of what is left
-pub grants : {A : Type 0} (d : Option Denial) (a : A) → d ≡ None → ◌≡◌ {A = Result A Denial} (Ok a) (reply d a)
-grants d a e = let f : Option Denial → Result _ Denial = λ x. reply x a in sym (ap f e)
-
-pub changes : {A : Type 0} (d : Option Denial) (a b : A) → d ≡ None → a ≡ unless d a b
-changes d a b e = let f : Option Denial → _ = λ x. unless x a b in sym (ap f e)
 
 -- none answered no: each answered yes
 abbrev EachYes : List Asked → Type 0
@@ -28,7 +21,7 @@ EachYes (q ∷ qs) = (q.answer ≡ true) × EachYes qs
 
 yes_by : (b : Bool) (d : Denial) (qs : List Asked) → (first_no qs ≡ None → EachYes qs) → first_no (asks d b ∷ qs) ≡ None → (b ≡ true) × EachYes qs
 yes_by true d qs h e = (refl, h e)
-yes_by false d qs h e = let z : ◌≡◌ {A = ℕ} 0 1 = cc in absurd (omega arith)
+yes_by false d qs h e = cc
 
 pub all_yes : (qs : List Asked) → first_no qs ≡ None → EachYes qs
 all_yes [] e = tt
@@ -37,12 +30,9 @@ all_yes (q ∷ qs) e = yes_by q.answer q.denial qs (all_yes qs) e
 abbrev asked : Bool → Denial → List Asked → Option Denial
 asked b d qs = elim b [ true ↦ first_no qs | false ↦ Some d ]
 
-clash : {A : Type 0} (d : Denial) → Some d ≡ None → A
-clash d e = let z : ◌≡◌ {A = ℕ} 0 1 = cc in absurd (omega arith)
-
 after_by : (b : Bool) (d : Denial) (qs rs : List Asked) → (first_no qs ≡ None → first_no (qs ++ rs) ≡ first_no rs) → asked b d qs ≡ None → asked b d (qs ++ rs) ≡ first_no rs
 after_by true d qs rs h e = h e
-after_by false d qs rs h e = clash d e
+after_by false d qs rs h e = cc
 
 -- the first list is answered yes throughout: the second decides
 pub first_after : (qs rs : List Asked) → first_no qs ≡ None → first_no (qs ++ rs) ≡ first_no rs
@@ -55,7 +45,7 @@ before_by false d c qs rs h e = e
 
 -- the first list denies: the second is not asked
 pub first_before : (qs rs : List Asked) (c : Denial) → first_no qs ≡ Some c → first_no (qs ++ rs) ≡ Some c
-first_before [] rs c e = clash c (sym e)
+first_before [] rs c e = cc
 first_before (q ∷ qs) rs c e = before_by q.answer q.denial c qs rs (first_before qs rs c) e
 
 -- the questions of each place in turn

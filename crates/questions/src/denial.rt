@@ -1,74 +1,78 @@
 // Denials: the question that was answered no, and what it was asked of.
 ghost use Rattle.std.specs.Prelude.{◌≡◌, Some};
-ghost use Rattle.questions.specs.Denials.{number_of, layer_text, of_map, of_file, of_order, of_list, refusal};
+ghost use Rattle.questions.specs.Denials.{number_of, layer_text, told, refusal};
 
 use std::fmt;
 
-// The questions that calls ask; `number` gives each its number.
+// The questions that calls ask, each with its number.
 #[derive(Clone, Copy, PartialEq, Eq, Debug)]
 pub enum Question {
     // node count 1 to 64?
-    NodeCount,
+    NodeCount = 1,
     // place count at most 256?
-    PlaceCount,
+    PlaceCount = 2,
     // at least four bytes?
-    HeaderBytes,
+    HeaderBytes = 3,
     // image length 4 + 12 × places?
-    ImageLength,
+    ImageLength = 4,
     // both ends below the node count?
-    EndsExist,
+    EndsExist = 5,
     // ends different?
-    EndsDiffer,
+    EndsDiffer = 6,
     // weight above 0?
-    WeightPositive,
+    WeightPositive = 7,
     // delay at most 100,000?
-    DelayLimit,
+    DelayLimit = 8,
     // figure at most 1,000,000?
-    FigureLimit,
+    FigureLimit = 9,
     // the ten figure bytes of an empty place all 00?
-    EmptyBlank,
+    EmptyBlank = 10,
     // place below the place count?
-    PlaceExists,
+    PlaceExists = 11,
     // place filled?
-    PlaceFilled,
+    PlaceFilled = 12,
     // space for storing at least 4 + 12 × places?
-    StoreSpace,
+    StoreSpace = 13,
     // source and target below the node count?
-    OrderNodes,
+    OrderNodes = 14,
     // label limit 1 to 10?
-    LabelLimit,
+    LabelLimit = 15,
     // grain 1 to 10,000?
-    GrainRange,
+    GrainRange = 16,
     // the bound at most 1,000 grains?
-    BoundGrains,
+    BoundGrains = 17,
     // working slices long enough?
-    WorkingSpace,
+    WorkingSpace = 18,
     // list space at least the label limit?
-    ListSpace,
+    ListSpace = 19,
     // any list within the order?
-    AnyList,
+    AnyList = 20,
     // a front slot for every number of grains within the bound?
-    FrontSpace,
+    FrontSpace = 21,
     // at most 10 walked entries?
-    WalkLength,
+    WalkLength = 22,
     // each entry legal?
-    EntryLegal,
+    EntryLegal = 23,
     // grains below the keeper's slot count?
-    KeeperSlot,
+    KeeperSlot = 24,
     // at least eight bytes behind the map part?
-    SheetHeader,
+    SheetHeader = 25,
     // at most 200 orders?
-    OrderCount,
+    OrderCount = 26,
     // sheet length exact?
-    SheetLength,
+    SheetLength = 27,
 }
 
-// What a denial's place counts: a place of the map, an entry of a list, the bytes of a file, an order of a sheet.
+// What a denial's place counts.
 #[derive(Clone, Copy, PartialEq, Eq, Debug)]
 pub enum Layer {
+    // a place of the map; 0 for the map's sizes
     Map,
+    // an entry of a segment list, by its index
     List,
+    // the bytes that were handed over
     File,
+    // an order, by its index in a sheet; 0 outside a sheet
     Order,
 }
 
@@ -80,47 +84,13 @@ pub struct Denial {
 }
 
 impl Denial {
-    // Asked of a place of the map; of the map's sizes at place 0.
-    pub fn of_map(question: Question, place: usize) -> Denial
-        ensures { result ≡ of_map question place }
+    pub fn new(question: Question, layer: Layer, place: usize) -> Denial
+        ensures { result ≡ told question layer place }
     {
         Denial {
             question,
-            layer: Layer::Map,
+            layer,
             place,
-        }
-    }
-
-    // Asked of so many bytes that were handed over.
-    pub fn of_file(question: Question, count: usize) -> Denial
-        ensures { result ≡ of_file question count }
-    {
-        Denial {
-            question,
-            layer: Layer::File,
-            place: count,
-        }
-    }
-
-    // Asked of an order, by its index in a sheet; outside a sheet that is 0.
-    pub fn of_order(question: Question, index: usize) -> Denial
-        ensures { result ≡ of_order question index }
-    {
-        Denial {
-            question,
-            layer: Layer::Order,
-            place: index,
-        }
-    }
-
-    // Asked of an entry of a segment list, by its index.
-    pub fn of_list(question: Question, index: usize) -> Denial
-        ensures { result ≡ of_list question index }
-    {
-        Denial {
-            question,
-            layer: Layer::List,
-            place: index,
         }
     }
 }
@@ -129,35 +99,7 @@ impl Question {
     pub fn number(self) -> u8
         ensures { result ≡ number_of self }
     {
-        match self {
-            Question::NodeCount => 1,
-            Question::PlaceCount => 2,
-            Question::HeaderBytes => 3,
-            Question::ImageLength => 4,
-            Question::EndsExist => 5,
-            Question::EndsDiffer => 6,
-            Question::WeightPositive => 7,
-            Question::DelayLimit => 8,
-            Question::FigureLimit => 9,
-            Question::EmptyBlank => 10,
-            Question::PlaceExists => 11,
-            Question::PlaceFilled => 12,
-            Question::StoreSpace => 13,
-            Question::OrderNodes => 14,
-            Question::LabelLimit => 15,
-            Question::GrainRange => 16,
-            Question::BoundGrains => 17,
-            Question::WorkingSpace => 18,
-            Question::ListSpace => 19,
-            Question::AnyList => 20,
-            Question::FrontSpace => 21,
-            Question::WalkLength => 22,
-            Question::EntryLegal => 23,
-            Question::KeeperSlot => 24,
-            Question::SheetHeader => 25,
-            Question::OrderCount => 26,
-            Question::SheetLength => 27,
-        }
+        self as u8
     }
 }
 
@@ -179,9 +121,12 @@ impl fmt::Display for Denial {
     ghost output = { λ d. Some (refusal d) };
 
     fn fmt<W: fmt::Write>(&self, f: &mut fmt::Formatter<W>) -> fmt::Result {
-        let number = self.question.number();
-        let layer = self.layer.text();
-        let place = self.place;
-        write!(f, "refused {number} {layer} {place}")
+        write!(
+            f,
+            "refused {} {} {}",
+            self.question.number(),
+            self.layer.text(),
+            self.place
+        )
     }
 }

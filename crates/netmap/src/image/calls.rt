@@ -1,20 +1,20 @@
 // Opening an image, and what makes it a map.
-ghost use Rattle.std.specs.Prelude.{◌≡◌, ◌+◌, ◌<◌, ◌≤◌, length, Some, None, MatchResult};
-ghost use Rattle.questions.specs.Asking.{reply, unless, Checks};
-ghost use Rattle.netmap.specs.Changes.{with_place, read_denial, put_denial, put_reply, after_put, remove_denial, remove_reply, after_remove};
+ghost use Rattle.std.specs.Prelude.{◌≡◌, ◌<◌, Some, None, MatchResult};
+ghost use Rattle.questions.specs.Asking.{reply, unless};
+ghost use Rattle.netmap.specs.Changes.{with_place, put_denial, put_reply, after_put, remove_denial, remove_reply, after_remove};
 ghost use Rattle.netmap.specs.Images.{image_net, image_sound, bytes_of};
-ghost use Rattle.netmap.specs.Layout.{encode, image_size, Images};
-ghost use Rattle.netmap.specs.Net.{Fit, link_at};
+ghost use Rattle.netmap.specs.Layout.{encode, Images};
+ghost use Rattle.netmap.specs.Net.{Fit, places as place_count, link_at};
 ghost use Rattle.netmap.specs.Opening.{no_places};
 ghost use Rattle.netmap.specs.Reading.{image_denial, decode};
-ghost use Rattle.netmap.specs.Spans.{Written, PlaceWritten};
 
 use super::Image;
-use crate::checks::{check_place, check_put};
-use crate::fields::{Sizes, end_bytes, examine, figure_bytes, read_place};
+use crate::checks::check_filled;
+use crate::fields::{examine, read_place, write_place};
 use crate::link::Link;
 use crate::map::Map;
-use questions::{Denial, Question};
+use crate::sizes::Sizes;
+use questions::Denial;
 
 impl<'a> Image<'a> {
     // Not open yet: the bytes are as they were.
@@ -23,11 +23,7 @@ impl<'a> Image<'a> {
         ensures same { bytes_of result ≡ bytes.old }
         ensures named { result.bytes.ghost_name ≡ bytes.entry.ghost_name }
     {
-        Image {
-            nodes: 1,
-            places: 0,
-            bytes,
-        }
+        Image { sizes: None, bytes }
     }
 
     // Granted where the bytes are the image of a network within the limits. Alters no byte.
@@ -39,21 +35,11 @@ impl<'a> Image<'a> {
         ensures same { bytes_of self.new ≡ bytes_of self.old }
         ensures named { self.new.bytes.ghost_name ≡ self.old.bytes.ghost_name }
     {
-        let sizes = self.examined()?;
-        self.admit(sizes.nodes, sizes.places);
+        self.sizes = Some(self.examined()?);
         Ok(())
     }
 
-    fn admit(&mut self, nodes: usize, places: usize)
-        requires { Images (bytes_of self.old) (decode nodes places (bytes_of self.old)) }
-        ensures means { image_net self.new ≡ decode nodes places (bytes_of self.old) }
-        ensures same { bytes_of self.new ≡ bytes_of self.old }
-        ensures named { self.new.bytes.ghost_name ≡ self.old.bytes.ghost_name }
-    {
-        self.nodes = nodes;
-        self.places = places;
-    }
-
+    // Through a shared borrow, after which the bytes are known to be as they were.
     fn examined(&self) -> Result<Sizes, Denial>
         ensures { MatchResult result
             (λ s. (image_denial (bytes_of self.now) ≡ None) × Images (bytes_of self.now) (decode s.nodes s.places (bytes_of self.now)))
@@ -62,75 +48,32 @@ impl<'a> Image<'a> {
         examine(self.bytes)
     }
 
-    fn may_read(&self, place: usize) -> Result<(), Denial>
-        ensures { Checks (read_denial (image_net self.now) place) (place < self.now.places) result }
+    fn sizes(&self) -> Sizes
+        ensures means { image_net self.now ≡ decode result.nodes result.places (bytes_of self.now) }
+        ensures places { result.places ≡ place_count (image_net self.now) }
     {
-        check_place(self.places, place)
-    }
-
-    fn may_put(&self, place: usize, link: Link) -> Result<(), Denial>
-        ensures { Checks (put_denial (image_net self.now) place link) ((place < self.now.places) × Fit self.now.nodes (Some link)) result }
-    {
-        check_put(self.nodes, self.places, place, link)
-    }
-
-    fn may_remove(&self, place: usize) -> Result<(), Denial>
-        ensures { Checks (remove_denial (image_net self.now) place) (place < self.now.places) result }
-    {
-        self.may_read(place)?;
-        match self.held(place) {
-            Some(_) => Ok(()),
-            None => Err(Denial::of_map(Question::PlaceFilled, place)),
-        }
+        self.sizes.unwrap_or(Sizes::NO_PLACES)
     }
 
     fn held(&self, place: usize) -> Option<Link>
-        requires { place < self.now.places }
+        requires { place < place_count (image_net self.now) }
         ensures { result ≡ link_at (image_net self.now) place }
     {
-        read_place(self.bytes, self.places, place)
-    }
-
-    // Writes bytes into an image that is not open.
-    pub(crate) fn write_run(&mut self, at: usize, run: &[u8])
-        requires shut { self.old.places ≡ 0 }
-        requires room { at + length run.now ≤ length (bytes_of self.old) }
-        ensures wrote { Written (bytes_of self.old) (bytes_of self.new) at run.now (length run.now) }
-        ensures shut { self.new.places ≡ 0 }
-        ensures nodes { self.new.nodes ≡ self.old.nodes }
-        ensures named { self.new.bytes.ghost_name ≡ self.old.bytes.ghost_name }
-    {
-        for i in 0..run.len() {
-            self.bytes[at + i] = run[i];
-        }
-    }
-
-    // Writes one of so many places of an image that is not open.
-    pub(crate) fn write_place(&mut self, places: usize, place: usize, held: Option<Link>)
-        requires shut { self.old.places ≡ 0 }
-        requires within { place < places }
-        requires room { image_size places ≤ length (bytes_of self.old) }
-        ensures wrote { PlaceWritten (bytes_of self.old) (bytes_of self.new) places place held }
-        ensures shut { self.new.places ≡ 0 }
-        ensures nodes { self.new.nodes ≡ self.old.nodes }
-        ensures named { self.new.bytes.ghost_name ≡ self.old.bytes.ghost_name }
-    {
-        self.write_run(4 + 2 * place, &end_bytes(held));
-        self.write_run(4 + 2 * places + 10 * place, &figure_bytes(held));
+        read_place(self.bytes, self.sizes().places, place)
     }
 
     // Shuts the image while the place is written, so that what is half written means nothing.
     fn change(&mut self, place: usize, held: Option<Link>)
-        requires within { place < self.old.places }
-        requires fit { Fit self.old.nodes held }
+        requires within { place < place_count (image_net self.old) }
+        requires fit { Fit (image_net self.old).nodes held }
         ensures means { image_net self.new ≡ with_place (image_net self.old) place held }
         ensures holds { bytes_of self.new ≡ encode (with_place (image_net self.old) place held) }
         ensures named { self.new.bytes.ghost_name ≡ self.old.bytes.ghost_name }
     {
-        let places = self.places;
-        self.places = 0;
-        self.write_place(places, place, held);
-        self.places = places;
+        let sizes = self.sizes();
+        self.sizes = None;
+        write_place(self.bytes, sizes.places, place, held);
+        self.sizes = Some(sizes);
     }
 }
 
@@ -140,15 +83,15 @@ impl<'a> Map for Image<'a> {
     ghost sound = { image_sound };
 
     fn nodes(&self) -> usize {
-        self.nodes
+        self.sizes().nodes
     }
 
     fn places(&self) -> usize {
-        self.places
+        self.sizes().places
     }
 
     fn read(&self, place: usize) -> Result<Option<Link>, Denial> {
-        self.may_read(place)?;
+        self.sizes().check_place(place)?;
         Ok(self.held(place))
     }
 
@@ -158,7 +101,7 @@ impl<'a> Map for Image<'a> {
         ensures holds { bytes_of self.new ≡ unless (put_denial (image_net self.old) place link) (encode (with_place (image_net self.old) place (Some link))) (bytes_of self.old) }
         ensures named { self.new.bytes.ghost_name ≡ self.old.bytes.ghost_name }
     {
-        self.may_put(place, link)?;
+        self.sizes().check_put(place, link)?;
         self.change(place, Some(link));
         Ok(())
     }
@@ -169,7 +112,8 @@ impl<'a> Map for Image<'a> {
         ensures holds { bytes_of self.new ≡ unless (remove_denial (image_net self.old) place) (encode (with_place (image_net self.old) place None)) (bytes_of self.old) }
         ensures named { self.new.bytes.ghost_name ≡ self.old.bytes.ghost_name }
     {
-        self.may_remove(place)?;
+        self.sizes().check_place(place)?;
+        check_filled(self.held(place), place)?;
         self.change(place, None);
         Ok(())
     }

@@ -1,16 +1,17 @@
 // Opening a record table, and what makes it a map.
 ghost use Rattle.std.specs.Prelude.{◌≡◌, ◌<◌, length, replicate, Some, None, slice_set};
-ghost use Rattle.questions.specs.Asking.{reply, unless, Checks};
-ghost use Rattle.netmap.specs.Changes.{with_place, read_denial, put_denial, put_reply, after_put, remove_denial, remove_reply, after_remove};
-ghost use Rattle.netmap.specs.Net.{Fit, link_at};
+ghost use Rattle.questions.specs.Asking.{reply, unless};
+ghost use Rattle.netmap.specs.Changes.{with_place, put_denial, put_reply, after_put, remove_denial, remove_reply, after_remove};
+ghost use Rattle.netmap.specs.Net.{Fit, places as place_count, link_at};
 ghost use Rattle.netmap.specs.Opening.{no_places, all_empty, size_denial};
 ghost use Rattle.netmap.specs.Tables.{table_net, table_sound, records_of};
 
 use super::RecordTable;
-use crate::checks::{check_place, check_put, check_sizes};
+use crate::checks::check_filled;
 use crate::link::Link;
 use crate::map::Map;
-use questions::{Denial, Question};
+use crate::sizes::Sizes;
+use questions::Denial;
 
 impl<'a> RecordTable<'a> {
     // Not open yet: the records are as they were.
@@ -20,8 +21,7 @@ impl<'a> RecordTable<'a> {
         ensures named { result.records.ghost_name ≡ records.entry.ghost_name }
     {
         RecordTable {
-            nodes: 1,
-            places: 0,
+            nodes: None,
             records,
         }
     }
@@ -33,57 +33,40 @@ impl<'a> RecordTable<'a> {
         ensures holds { records_of self.new ≡ unless (size_denial nodes (length (records_of self.old))) (replicate (length (records_of self.old)) None) (records_of self.old) }
         ensures named { self.new.records.ghost_name ≡ self.old.records.ghost_name }
     {
-        check_sizes(nodes, self.records.len())?;
-        self.clear(nodes);
+        let sizes = Sizes {
+            nodes,
+            places: self.records.len(),
+        };
+        sizes.check()?;
+        self.nodes = None;
+        self.records.fill(None);
+        self.nodes = Some(nodes);
         Ok(())
     }
 
-    fn clear(&mut self, nodes: usize)
-        requires { size_denial nodes (length (records_of self.old)) ≡ None }
-        ensures means { table_net self.new ≡ all_empty nodes (length (records_of self.old)) }
-        ensures holds { records_of self.new ≡ replicate (length (records_of self.old)) None }
-        ensures named { self.new.records.ghost_name ≡ self.old.records.ghost_name }
+    fn sizes(&self) -> Sizes
+        ensures nodes { result.nodes ≡ (table_net self.now).nodes }
+        ensures places { result.places ≡ place_count (table_net self.now) }
     {
-        self.nodes = nodes;
-        self.places = 0;
-        for i in 0..self.records.len() {
-            self.records[i] = None;
-        }
-        self.places = self.records.len();
-    }
-
-    fn may_read(&self, place: usize) -> Result<(), Denial>
-        ensures { Checks (read_denial (table_net self.now) place) (place < self.now.places) result }
-    {
-        check_place(self.places, place)
-    }
-
-    fn may_put(&self, place: usize, link: Link) -> Result<(), Denial>
-        ensures { Checks (put_denial (table_net self.now) place link) ((place < self.now.places) × Fit self.now.nodes (Some link)) result }
-    {
-        check_put(self.nodes, self.places, place, link)
-    }
-
-    fn may_remove(&self, place: usize) -> Result<(), Denial>
-        ensures { Checks (remove_denial (table_net self.now) place) (place < self.now.places) result }
-    {
-        self.may_read(place)?;
-        match self.held(place) {
-            Some(_) => Ok(()),
-            None => Err(Denial::of_map(Question::PlaceFilled, place)),
+        match self.nodes {
+            None => Sizes::NO_PLACES,
+            Some(nodes) => Sizes {
+                nodes,
+                places: self.records.len(),
+            },
         }
     }
 
     fn held(&self, place: usize) -> Option<Link>
-        requires { place < self.now.places }
+        requires { place < place_count (table_net self.now) }
         ensures { result ≡ link_at (table_net self.now) place }
     {
         self.records[place]
     }
 
     fn change(&mut self, place: usize, held: Option<Link>)
-        requires within { place < self.old.places }
-        requires fit { Fit self.old.nodes held }
+        requires within { place < place_count (table_net self.old) }
+        requires fit { Fit (table_net self.old).nodes held }
         ensures means { table_net self.new ≡ with_place (table_net self.old) place held }
         ensures holds { records_of self.new ≡ slice_set (records_of self.old) place held }
         ensures named { self.new.records.ghost_name ≡ self.old.records.ghost_name }
@@ -98,15 +81,15 @@ impl<'a> Map for RecordTable<'a> {
     ghost sound = { table_sound };
 
     fn nodes(&self) -> usize {
-        self.nodes
+        self.sizes().nodes
     }
 
     fn places(&self) -> usize {
-        self.places
+        self.sizes().places
     }
 
     fn read(&self, place: usize) -> Result<Option<Link>, Denial> {
-        self.may_read(place)?;
+        self.sizes().check_place(place)?;
         Ok(self.held(place))
     }
 
@@ -116,7 +99,7 @@ impl<'a> Map for RecordTable<'a> {
         ensures holds { records_of self.new ≡ unless (put_denial (table_net self.old) place link) (slice_set (records_of self.old) place (Some link)) (records_of self.old) }
         ensures named { self.new.records.ghost_name ≡ self.old.records.ghost_name }
     {
-        self.may_put(place, link)?;
+        self.sizes().check_put(place, link)?;
         self.change(place, Some(link));
         Ok(())
     }
@@ -127,7 +110,8 @@ impl<'a> Map for RecordTable<'a> {
         ensures holds { records_of self.new ≡ unless (remove_denial (table_net self.old) place) (slice_set (records_of self.old) place None) (records_of self.old) }
         ensures named { self.new.records.ghost_name ≡ self.old.records.ghost_name }
     {
-        self.may_remove(place)?;
+        self.sizes().check_place(place)?;
+        check_filled(self.held(place), place)?;
         self.change(place, None);
         Ok(())
     }
