@@ -10,7 +10,7 @@ use crate::figures::{Figures, Leg, Spread, Walk};
 use crate::routing::{Routes, route};
 use crate::units::{Grain, Grains, Labels, round_up};
 use netmap::{Map, Microseconds};
-use questions::{Denial, Question};
+use questions::{Denial, Layer, Question};
 use tariff::Tariff;
 
 const MAX_GRAIN: Microseconds = Microseconds(10_000);
@@ -30,16 +30,16 @@ fn check_walk(
     ensures { result ≡ reply (walk_denial n source grain.0 dist spread count) tt }
 {
     if source as usize >= n {
-        return Err(Denial::of_order(Question::OrderNodes, 0));
+        return Err(Denial::new(Question::OrderNodes, Layer::Order, 0));
     }
     if grain.0 < 1 || grain.0 > MAX_GRAIN.0 {
-        return Err(Denial::of_order(Question::GrainRange, 0));
+        return Err(Denial::new(Question::GrainRange, Layer::Order, 0));
     }
     if dist < n * n || spread < n * n {
-        return Err(Denial::of_order(Question::WorkingSpace, 0));
+        return Err(Denial::new(Question::WorkingSpace, Layer::Order, 0));
     }
     if count > MAX_ENTRIES {
-        return Err(Denial::of_order(Question::WalkLength, 0));
+        return Err(Denial::new(Question::WalkLength, Layer::Order, 0));
     }
     Ok(())
 }
@@ -90,10 +90,10 @@ impl<'a, M: Map, V: Tariff> Routes<'a, M, V> {
     {
         let mut walked = stay(source);
         for (i, code) in list.iter().enumerate() {
-            match self.entry(walked.end as usize, *code) {
-                Some(leg) => walked = extend(walked, leg, grain),
-                None => return Err(Denial::of_list(Question::EntryLegal, i)),
-            }
+            let Some(leg) = self.entry(walked.end as usize, *code) else {
+                return Err(Denial::new(Question::EntryLegal, Layer::List, i));
+            };
+            walked = extend(walked, leg, grain);
         }
         Ok(walked)
     }
