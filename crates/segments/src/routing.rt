@@ -1,6 +1,7 @@
 // Routing: the distances of all pairs of nodes, and then the figures of their node segments.
 ghost use Rattle.std.specs.Prelude.{◌≡◌, ◌*◌, ◌≤◌, length};
 ghost use Rattle.segments.specs.Algebra.{algebra};
+ghost use Rattle.segments.specs.Distances.{Measured};
 ghost use Rattle.segments.specs.Spreads.{Routed};
 
 use crate::distances::find_distances;
@@ -28,7 +29,8 @@ pub fn route<M: Map, V: Tariff>(
     requires nodes { nodes ≡ (M.meaning map.now).nodes }
     requires sized { nodes * nodes ≤ length dist.old }
     requires space { nodes * nodes ≤ length spread.old }
-    ensures { Routed (M.meaning map.now) (algebra V.good V.joining) nodes spread.new }
+    ensures distances { Measured (M.meaning map.now) nodes dist.new }
+    ensures figures { Routed (M.meaning map.now) (algebra V.good V.joining) nodes spread.new }
 {
     find_distances(map, nodes, dist, spread);
     let distances = Distances {

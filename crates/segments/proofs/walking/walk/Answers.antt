@@ -12,7 +12,7 @@ route-requires g c =
 pub follow-requires : goal.follow-requires
 follow-requires g c =
     let a = admitted c.nodes-nodes.result c.args.source c.args.grain.0 (length c.args.dist.now) (length c.args.spread.now) (length c.args.list.now) c.in_ok-check_walk.ensures in
-    record { routed = c.route.ensures; from = a.from; short = a.short }
+    record { routed = c.route.ensures.figures; from = a.from; short = a.short }
 
 pub returns-in_err-check_walk : goal.returns-in_err-check_walk
 returns-in_err-check_walk g c =
