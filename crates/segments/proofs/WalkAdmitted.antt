@@ -1,14 +1,13 @@
 -- A walk that no question denies has its source, grain, slices and list in range; one that is denied replies so.
-use Rattle.std.proofs.Common.{◌≡◌, ℕ, ◌*◌, ◌<◌, ◌≤◌, leb, List, length, Option, Ok, Err, Result, sym, refl, subst}
+use Rattle.std.proofs.Common.{◌≡◌, ℕ, ◌*◌, ◌<◌, ◌≤◌, leb, List, length, Some, None, Option, Err, Result, sym, subst}
 use Rattle.std.proofs.lemmas.Bool.{ltb-true, leb-true, and_parts}
 use Rattle.questions.specs.declared.denial.Denial.{Denial}
 use Rattle.netmap.specs.Net.{Net}
-use Rattle.questions.specs.Asking.{reply}
-use Rattle.questions.proofs.Asking.{granted, denied, all_yes}
+use Rattle.questions.proofs.Asking.{all_yes}
 use Rattle.segments.specs.declared.figures.Spread.{Spread}
 use Rattle.segments.specs.declared.figures.Walk.{Walk}
 use Rattle.segments.specs.Algebra.{Algebra}
-use Rattle.segments.specs.Walks.{walk_questions, walk_denial, WalkBy, WalkCall}
+use Rattle.segments.specs.Walks.{walk_questions, walk_denial, WalkReply, WalkBy, WalkCall}
 
 -- where no question is answered no
 pub record Admitted (n source grain dist spread count : ℕ) : Type 0 where
@@ -19,9 +18,9 @@ pub record Admitted (n source grain dist spread count : ℕ) : Type 0 where
   pub space : n * n ≤ spread
   pub short : count ≤ 10
 
-pub admitted : (n source grain dist spread count : ℕ) → ◌≡◌ {A = Result (Unit {0}) Denial} (Ok tt) (reply (walk_denial n source grain dist spread count) tt) → Admitted n source grain dist spread count
+pub admitted : (n source grain dist spread count : ℕ) → walk_denial n source grain dist spread count ≡ None → Admitted n source grain dist spread count
 admitted n source grain dist spread count e =
-    let y = all_yes (walk_questions n source grain dist spread count) (granted (walk_denial n source grain dist spread count) tt tt e) in
+    let y = all_yes (walk_questions n source grain dist spread count) e in
     let g = and_parts (leb 1 grain) (leb grain 10000) y.1.0 in
     let s = and_parts (leb (n * n) dist) (leb (n * n) spread) y.1.1.0 in
     record {
@@ -33,9 +32,14 @@ admitted n source grain dist spread count e =
       short = leb-true count 10 y.1.1.1.0;
     }
 
-pub walk_denied : {V : Type 0} (net : Net) (alg : Algebra V) (source grain : ℕ) (cs : List ℕ) (dist : List (Option ℕ)) (spread : List (Option (Spread V))) (n : ℕ) → n ≡ net.nodes → (x : Denial) (r : Result (Walk V) Denial)
-    → ◌≡◌ {A = Result (Unit {0}) Denial} (Err x) (reply (walk_denial n source grain (length dist) (length spread) (length cs)) tt) → r ≡ Err x → WalkCall net alg source grain cs dist dist spread spread r
-walk_denied net alg source grain cs dist spread n nodes x r e q =
-    let d = denied (walk_denial n source grain (length dist) (length spread) (length cs)) x tt e in
-    subst (λ k. WalkBy net alg source grain cs (walk_denial k source grain (length dist) (length spread) (length cs)) dist dist spread spread r) nodes
-    (subst (λ o. WalkBy net alg source grain cs o dist dist spread spread r) (sym d) (q, refl, refl))
+module _ {V : Type 0} (net : Net) (alg : Algebra V) (source grain : ℕ) (cs : List ℕ) (dist dist_after : List (Option ℕ)) (spread spread_after : List (Option (Spread V))) (n : ℕ) (nodes : n ≡ net.nodes) (r : Result (Walk V) Denial) where
+  told_by : (d : Option Denial) → walk_denial n source grain (length dist) (length spread) (length cs) ≡ d → WalkBy net alg source grain cs d dist dist_after spread spread_after r → WalkCall net alg source grain cs dist dist_after spread spread_after r
+  told_by d e w =
+      subst (λ k. WalkBy net alg source grain cs (walk_denial k source grain (length dist) (length spread) (length cs)) dist dist_after spread spread_after r) nodes
+      (subst (λ o. WalkBy net alg source grain cs o dist dist_after spread spread_after r) (sym e) w)
+
+  pub walk_denied : (x : Denial) → walk_denial n source grain (length dist) (length spread) (length cs) ≡ Some x → r ≡ Err x → dist_after ≡ dist → spread_after ≡ spread → WalkCall net alg source grain cs dist dist_after spread spread_after r
+  walk_denied x e q a b = told_by (Some x) e (q, a, b)
+
+  pub walk_granted : walk_denial n source grain (length dist) (length spread) (length cs) ≡ None → WalkReply net alg source grain cs r → WalkCall net alg source grain cs dist dist_after spread spread_after r
+  walk_granted e w = told_by None e w

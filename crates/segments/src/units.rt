@@ -1,5 +1,5 @@
 // Counts in units of their own.
-ghost use Rattle.std.specs.Prelude.{◌≡◌, ◌≤◌};
+ghost use Rattle.std.specs.Prelude.{◌≡◌, ◌≤◌, ◌&&◌, is_some, IfSome, nat_le};
 ghost use Rattle.segments.specs.Segments.{grains_of};
 
 use netmap::Microseconds;
@@ -17,6 +17,22 @@ pub struct Labels(pub u16);
 pub struct Grain {
     pub length: Microseconds,
     ghost some: { 1 ≤ length.0 },
+}
+
+impl Grain {
+    // The longest that may be asked for.
+    pub const LONGEST: Microseconds = Microseconds(10_000);
+
+    // Of 1 to 10,000 microseconds, or none.
+    pub fn new(length: Microseconds) -> Option<Grain>
+        ensures range { is_some result ≡ (nat_le 1 length.0 && nat_le length.0 10000) }
+        ensures same { IfSome result (λ grain. grain.length ≡ length) }
+    {
+        if length.0 < 1 || length.0 > Self::LONGEST.0 {
+            return None;
+        }
+        Some(Grain { length })
+    }
 }
 
 // A delay in grains of the given length. Public for the search above this crate.

@@ -1,6 +1,5 @@
 // Walking a given segment list.
-ghost use Rattle.std.specs.Prelude.{◌≡◌, ◌<◌, ◌≤◌, length};
-ghost use Rattle.questions.specs.Asking.{reply};
+ghost use Rattle.std.specs.Prelude.{◌≡◌, ◌<◌, ◌≤◌, length, Some, None, MatchResult};
 ghost use Rattle.segments.specs.Algebra.{algebra};
 ghost use Rattle.segments.specs.Entries.{Stays, Extended};
 ghost use Rattle.segments.specs.Spreads.{Routed};
@@ -13,8 +12,6 @@ use netmap::{Map, Microseconds};
 use questions::{Denial, Layer, Question};
 use tariff::Tariff;
 
-const MAX_GRAIN: Microseconds = Microseconds(10_000);
-
 const MAX_ENTRIES: usize = 10;
 
 // Asks of the source, the grain, the lengths of the working slices and that of the list.
@@ -25,23 +22,25 @@ fn check_walk(
     dist: usize,
     spread: usize,
     count: usize,
-) -> Result<(), Denial>
+) -> Result<Grain, Denial>
     requires { n ≤ 64 }
-    ensures { result ≡ reply (walk_denial n source grain.0 dist spread count) tt }
+    ensures { MatchResult result
+        (λ g. (walk_denial n source grain.0 dist spread count ≡ None) × (g.length ≡ grain))
+        (λ d. walk_denial n source grain.0 dist spread count ≡ Some d) }
 {
     if source as usize >= n {
         return Err(Denial::new(Question::OrderNodes, Layer::Order, 0));
     }
-    if grain.0 < 1 || grain.0 > MAX_GRAIN.0 {
+    let Some(grain) = Grain::new(grain) else {
         return Err(Denial::new(Question::GrainRange, Layer::Order, 0));
-    }
+    };
     if dist < n * n || spread < n * n {
         return Err(Denial::new(Question::WorkingSpace, Layer::Order, 0));
     }
     if count > MAX_ENTRIES {
         return Err(Denial::new(Question::WalkLength, Layer::Order, 0));
     }
-    Ok(())
+    Ok(grain)
 }
 
 // The list without entries: it ends where it begins.
@@ -112,8 +111,8 @@ pub fn walk<M: Map, V: Tariff>(
     ensures { WalkCall (M.meaning map.now) (algebra V.good V.joining) source grain.0 list.now dist.old dist.new spread.old spread.new result }
 {
     let nodes = map.nodes();
-    check_walk(nodes, source, grain, dist.len(), spread.len(), list.len())?;
+    let grain = check_walk(nodes, source, grain, dist.len(), spread.len(), list.len())?;
     route(map, nodes, dist, spread);
     let routes = Routes { map, nodes, spread };
-    routes.follow(source, Grain { length: grain }, list)
+    routes.follow(source, grain, list)
 }
