@@ -7,10 +7,10 @@ use Rattle.netmap.specs.Net.{Net, SoundLink, Fit, Sound}
 use Rattle.netmap.specs.Changes.{with_place}
 
 pub none_some : (o : Option Link) (l : Link) → o ≡ None → o ≡ Some l → ⊥
-none_some o l p q = let z : ◌≡◌ {A = ℕ} 0 1 = cc in omega arith
+none_some o l p q = cc
 
 pub fit_none : (n : ℕ) → Fit n None
-fit_none n l e = let z : ◌≡◌ {A = ℕ} 0 1 = cc in absurd (omega arith)
+fit_none n l e = cc
 
 pub fit_some : (n : ℕ) (l : Link) → SoundLink n l → Fit n (Some l)
 fit_some n l s k e = let same : l ≡ k = cc in subst (SoundLink n) same s

@@ -6,13 +6,10 @@ use Rattle.netmap.specs.Changes.{with_place}
 use Rattle.netmap.specs.Layout.{two_bytes, encode, image_size}
 use Rattle.netmap.specs.Net.{Fit, Net, Sound, places, link_at}
 use Rattle.netmap.specs.Reading.{decode, ends_at, figures_at}
-use Rattle.netmap.specs.Spans.{Written, AtPlace, Outside, PlaceWritten}
+use Rattle.netmap.specs.Spans.{AtPlace, Outside, PlaceWritten}
 use Rattle.netmap.proofs.Decoding.{decode_places, decode_laid_out}
 use Rattle.netmap.proofs.Layouts.{LaysOut, lays_out_encode, image_lays_out}
 use Rattle.netmap.proofs.Soundness.{sound_with}
-
-pub written_as : (old new : List ℕ) (at : ℕ) (s t : List ℕ) (v w : ℕ) → s ≡ t → v ≡ w → Written old new at s v → Written old new at t w
-written_as old new at s t v w e f h = subst (λ x. Written old new at t x) f (subst (λ x. Written old new at x v) e h)
 
 -- the other places are as they were
 pub place_kept : (old new : List ℕ) (m p k : ℕ) (o q : Option Link) → (k ≡ p → ⊥) → k < m → p < m → PlaceWritten old new m p o → AtPlace old m k q → AtPlace new m k q

@@ -43,10 +43,7 @@ fn add_place(text: &mut String, place: usize, held: Option<Link>) -> Result<(), 
 pub fn listing<M: Map>(heap: Global, map: &M) -> Result<String, AllocError>
     ensures { IfOk result (λ text. string_bytes text ≡ listed (M.meaning map.now)) }
 {
-    let sizes = Sizes {
-        nodes: map.nodes(),
-        places: map.places(),
-    };
+    let sizes = Sizes::of(map);
     let mut text = format!(in heap; "{sizes}\n")?;
     add_places(&mut text, map)?;
     Ok(text)
