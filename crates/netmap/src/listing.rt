@@ -1,6 +1,6 @@
 // The text of a map, for the person who enrols a carrier.
-ghost use Rattle.std.specs.Prelude.{◌≡◌, ◌++◌, IfOk, Some, string_bytes, OnOk};
-ghost use Rattle.netmap.specs.Texts.{link_text, place_text, places_text, listed, Reports};
+ghost use Rattle.std.specs.Prelude.{◌≡◌, IfOk, Some, string_bytes};
+ghost use Rattle.netmap.specs.Texts.{link_text, listed, Reports};
 
 use crate::image::Image;
 use crate::link::Link;

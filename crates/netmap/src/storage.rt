@@ -1,5 +1,5 @@
 // Storing any map as an image.
-ghost use Rattle.std.specs.Prelude.{◌≡◌, ◌≤◌, length, take, IfOk};
+ghost use Rattle.std.specs.Prelude.{◌≡◌, length, take, IfOk};
 ghost use Rattle.questions.specs.Asking.{reply, unless};
 ghost use Rattle.netmap.specs.Layout.{image_size};
 ghost use Rattle.netmap.specs.Net.{places as place_count};
