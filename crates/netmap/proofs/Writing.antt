@@ -1,6 +1,7 @@
 -- What bytes hold once some of them are written.
-use Rattle.std.proofs.Common.{◌≡◌, ℕ, ◌+◌, ◌<◌, ◌≤◌, List, ◌++◌, length, get_or, set, None, Option, sym, ap, ◌∙◌, subst, inl, inr, ⊎_elim, arith, length-set, get_or-set_other, get_or-set_same}
-use Rattle.std.proofs.lemmas.Bool.{cases_lt, cases_eq}
+use Rattle.std.proofs.lemmas.Grind.{common_steps}
+use Rattle.std.proofs.Common.{◌≡◌, ℕ, ◌+◌, ◌<◌, ◌≤◌, List, ◌++◌, length, get_or, set, None, Option, sym, ap, ◌∙◌, subst, inl, inr, ⊎_elim, arith, length-set}
+use Rattle.std.proofs.lemmas.Bool.{cases_lt}
 use Rattle.netmap.specs.declared.link.Link.{Link}
 use Rattle.netmap.specs.Changes.{with_place}
 use Rattle.netmap.specs.Layout.{two_bytes, encode, image_size}
@@ -34,11 +35,7 @@ pub past_outside : (m p i : ℕ) → p < m → image_size m ≤ i → Outside m 
 past_outside m p i lt h = record { ends = inr (omega arith); figures = inr (omega arith) }
 
 at_set : (bs : List ℕ) (m k p : ℕ) (ls : List (Option Link)) (o : Option Link) → p < length ls → ((k ≡ p → ⊥) → AtPlace bs m k (get_or ls k None)) → AtPlace bs m p o → AtPlace bs m k (get_or (set ls p o) k None)
-at_set bs m k p ls o lt other here =
-    ⊎_elim
-    (λ (e : k ≡ p). subst (λ x. AtPlace bs m x (get_or (set ls p o) x None)) (sym e) (subst (AtPlace bs m p) (sym (get_or-set_same ls p o None lt)) here))
-    (λ (ne : k ≡ p → ⊥). subst (AtPlace bs m k) (sym (get_or-set_other ls p k o None ne)) (other ne))
-    (cases_eq k p)
+at_set bs m k p ls o lt other here = grind (arith, common_steps)
 
 change_lays_out : (old new : List ℕ) (net : Net) (p : ℕ) (o : Option Link) → LaysOut old net → p < places net → PlaceWritten old new (places net) p o → LaysOut new (with_place net p o)
 change_lays_out old new net p o s lt w =
