@@ -1,5 +1,6 @@
 -- What bytes say, place by place.
-use Rattle.std.proofs.Common.{◌≡◌, ℕ, ◌/◌, ◌%◌, ◌<◌, ◌≤◌, List, ◌++◌, length, get_or, None, Option, sym, ap, ◌∙◌, subst, ⊎_elim, arith, below_none, below_more}
+use Rattle.std.proofs.lemmas.Grind.{common_steps}
+use Rattle.std.proofs.Common.{◌≡◌, ℕ, ◌<◌, ◌≤◌, List, ◌++◌, length, get_or, None, Option, sym, ap, ◌∙◌, subst, ⊎_elim, arith}
 use Rattle.std.proofs.lemmas.List.FromFn.{length-map-range_with_len, get_or-map-range_with_len}
 use Rattle.std.proofs.lemmas.List.{same_lists, get_or_past, get_or_default}
 use Rattle.std.proofs.lemmas.Bool.{cases_lt}
@@ -11,7 +12,7 @@ use Rattle.netmap.specs.Reading.{two_at, link_in, place_of, decode, field_questi
 use Rattle.netmap.specs.Spans.{AtPlace}
 use Rattle.netmap.proofs.Changes.{InLimits}
 use Rattle.netmap.proofs.Layouts.{LaysOut, lays_out_encode}
-use Rattle.netmap.proofs.PlaceBytes.{two_back, place_read, place_back, place_fit}
+use Rattle.netmap.proofs.PlaceBytes.{place_read, place_back, place_fit}
 use Rattle.netmap.proofs.Soundness.{none_some}
 
 pub decode_at : (n m : ℕ) (bs : List ℕ) (k : ℕ) → k < m → link_at (decode n m bs) k ≡ place_of (link_in m bs k)
@@ -43,15 +44,7 @@ pub record Passed (bs : List ℕ) (n m : ℕ) : Type 0 where
   pub each : (k : ℕ) → k < m → first_no (field_questions n (link_in m bs k) k) ≡ None
 
 sizes_laid_out : (bs : List ℕ) (n m : ℕ) → Passed bs n m → (j : ℕ) → j < 4 → get_or bs j 0 ≡ get_or (two_bytes n ++ two_bytes m) j 0
-sizes_laid_out bs n m p =
-    let P : ℕ → Type 0 = λ j. get_or bs j 0 ≡ get_or (two_bytes n ++ two_bytes m) j 0 in
-    let a = two_back _ _ (p.fits 0) (p.fits 1) in
-    let b = two_back _ _ (p.fits 2) (p.fits 3) in
-    let n0 : P 0 = a.0 ∙ ap (λ x. x / 256 % 256) (sym p.nodes) in
-    let n1 : P 1 = a.1 ∙ ap (λ x. x % 256) (sym p.nodes) in
-    let m0 : P 2 = b.0 ∙ ap (λ x. x / 256 % 256) (sym p.count) in
-    let m1 : P 3 = b.1 ∙ ap (λ x. x % 256) (sym p.count) in
-    below_more P 3 (below_more P 2 (below_more P 1 (below_more P 0 (below_none P) n0) n1) m0) m1
+sizes_laid_out bs n m p = grind (arith, common_steps)
 
 pub passed_lays_out : (bs : List ℕ) (n m : ℕ) → Passed bs n m → LaysOut bs (decode n m bs)
 passed_lays_out bs n m p =

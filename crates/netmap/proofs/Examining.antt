@@ -1,17 +1,14 @@
 -- The questions of an image, from its header and each of its places.
-use Rattle.std.proofs.Common.{◌≡◌, ℕ, ◌<◌, ◌≤◌, eqb, leb, List, [], ◌∷◌, ◌++◌, length, get_or, Some, None, sym, refl, ap, ◌∙◌, subst, arith, eq-eqb, eqb-true, le-leb, leb-true}
-use Rattle.std.proofs.lemmas.Bool.{and_parts}
+use Rattle.std.proofs.lemmas.Grind.{common_steps}
+use Rattle.std.proofs.Common.{◌≡◌, ℕ, ◌<◌, List, length, get_or, Some, None, sym, refl, ap, ◌∙◌, subst, arith}
 use Rattle.std.specs.List.{range_with_len, flat_map}
 use Rattle.questions.specs.declared.denial.Denial.{Denial}
-use Rattle.questions.specs.declared.denial.Question.TheVariants.{ImageLength}
 use Rattle.netmap.specs.declared.link.Link.{Link}
-use Rattle.questions.specs.Asking.{Asked, asks, first_no}
-use Rattle.questions.specs.Denials.{of_file}
+use Rattle.questions.specs.Asking.{Asked, first_no}
 use Rattle.netmap.specs.Layout.{image_size}
-use Rattle.netmap.specs.Opening.{size_questions}
 use Rattle.netmap.specs.Reading.{two_at, link_in, field_questions, header_questions, image_denial}
-use Rattle.questions.proofs.Asking.{all_yes, first_after, none_all, some_at}
-use Rattle.netmap.proofs.Changes.{InLimits, sizes_granted}
+use Rattle.questions.proofs.Asking.{first_after, none_all, some_at}
+use Rattle.netmap.proofs.Changes.{InLimits}
 use Rattle.netmap.proofs.Decoding.{Passed}
 
 -- the questions of a place, by the sizes of the header
@@ -23,21 +20,10 @@ pub record Header (bs : List ℕ) : Type 0 where
   pub long : length bs ≡ image_size (two_at bs 2)
 
 pub header_passes : (bs : List ℕ) → first_no (header_questions bs) ≡ None → Header bs
-header_passes bs e =
-    let y = all_yes (header_questions bs) e in
-    let t = and_parts (leb 1 (two_at bs 0)) (leb (two_at bs 0) 64) y.1.0 in
-    record {
-      limits = record { low = leb-true _ _ t.0; high = leb-true _ _ t.1; few = leb-true _ _ y.1.1.0 };
-      long = eqb-true _ _ y.1.1.1.0;
-    }
+header_passes bs e = grind (arith, common_steps)
 
 pub header_granted : (bs : List ℕ) → Header bs → first_no (header_questions bs) ≡ None
-header_granted bs h =
-    let last : List Asked = asks (of_file ImageLength (length bs)) (eqb (length bs) (image_size (two_at bs 2))) ∷ [] in
-    let a : first_no last ≡ None = simp (eq-eqb (length bs) (image_size (two_at bs 2)) h.long) in
-    let b : first_no (size_questions (two_at bs 0) (two_at bs 2) ++ last) ≡ None = first_after (size_questions (two_at bs 0) (two_at bs 2)) last (sizes_granted _ _ h.limits) ∙ a in
-    let four : 4 ≤ length bs = omega (arith, h.long) in
-    simp (le-leb 4 (length bs) four, b)
+header_granted bs h = grind (arith, common_steps)
 
 -- all places pass, or the first that does not denies
 pub image_granted : (bs : List ℕ) → first_no (header_questions bs) ≡ None → ((k : ℕ) → k < two_at bs 2 → first_no (Q bs k) ≡ None) → image_denial bs ≡ None
@@ -52,10 +38,7 @@ image_denied bs p d h each lt e =
 
 -- as the code asks them, of the sizes and the link that it read
 pub as_asked : (bs : List ℕ) (n m k : ℕ) (l : Link) → n ≡ two_at bs 0 → m ≡ two_at bs 2 → l ≡ link_in m bs k → first_no (field_questions n l k) ≡ first_no (Q bs k)
-as_asked bs n m k l en em el =
-    ap (λ x. first_no (field_questions n x k)) el
-    ∙ ap (λ x. first_no (field_questions x (link_in m bs k) k)) en
-    ∙ ap (λ x. first_no (field_questions (two_at bs 0) (link_in x bs k) k)) em
+as_asked bs n m k l en em el = grind (arith, common_steps)
 
 pub all_passed : (bs : List ℕ) (n m : ℕ) → ((i : ℕ) → get_or bs i 0 < 256) → n ≡ two_at bs 0 → m ≡ two_at bs 2 → first_no (header_questions bs) ≡ None → ((k : ℕ) → k < m → first_no (Q bs k) ≡ None) → Passed bs n m
 all_passed bs n m fits en em h each =

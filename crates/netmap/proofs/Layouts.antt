@@ -1,7 +1,8 @@
 -- Bytes that hold the sizes and each place of a network are its image.
-use Rattle.std.proofs.Common.{◌≡◌, ℕ, zero, suc, ◌+◌, ◌-◌, ◌*◌, ◌/◌, ◌%◌, ◌<◌, ◌≤◌, List, [], ◌∷◌, ◌++◌, length, get_or, Some, None, Option, sym, refl, ap, ◌∙◌, subst, ⊎_elim, mul-zero, mul-suc, arith, length-append}
+use Rattle.std.proofs.Common.{◌≡◌, ℕ, ◌+◌, ◌-◌, ◌*◌, ◌/◌, ◌%◌, ◌<◌, ◌≤◌, List, [], ◌∷◌, ◌++◌, length, get_or, take, Some, None, Option, sym, refl, ap, ◌∙◌, subst, ⊎_elim, mul-zero, mul-suc, arith, length-append}
 use Rattle.std.specs.List.{flat_map}
-use Rattle.std.proofs.lemmas.List.{same_lists, get_or_append_left, get_or-append-add, get_or_default}
+use Rattle.std.proofs.lemmas.List.{same_lists, get_or_append_left, get_or-append-add, get_or_default, length-take-le}
+use Rattle.std.proofs.lemmas.List.Concat.{get_or-flat_map}
 use Rattle.std.proofs.lemmas.Bool.{cases_lt}
 use Rattle.netmap.specs.declared.link.Link.{Link}
 use Rattle.netmap.specs.Layout.{two_bytes, ends, figures, encode, image_size}
@@ -29,13 +30,9 @@ joined_long f w h [] = sym (mul-zero w)
 joined_long f w h (x ∷ xs) = length-append (f x) (flat_map f xs) ∙ omega (arith, h x, joined_long f w h xs, mul-suc w (length xs))
 
 joined_at : {X : Type 0} (f : X → List ℕ) (w : ℕ) → ((x : X) → length (f x) ≡ w) → (xs : List X) (k j : ℕ) (d : X) → k < length xs → j < w → get_or (flat_map f xs) (w * k + j) 0 ≡ get_or (f (get_or xs k d)) j 0
-joined_at f w h [] k j d lt lw = absurd (omega arith)
-joined_at f w h (x ∷ xs) zero j d lt lw =
-    let same : w * zero + j ≡ j = omega (arith, mul-zero w) in
-    ap (λ i. get_or (f x ++ flat_map f xs) i 0) same ∙ get_or_append_left (f x) (flat_map f xs) 0 j (omega (arith, h x))
-joined_at f w h (x ∷ xs) (suc k) j d lt lw =
-    let same : w * suc k + j ≡ length (f x) + (w * k + j) = omega (arith, mul-suc w k, h x) in
-    ap (λ i. get_or (f x ++ flat_map f xs) i 0) same ∙ get_or-append-add (f x) (flat_map f xs) (w * k + j) 0 ∙ joined_at f w h xs k j d (omega arith) lw
+joined_at f w h xs k j d lt lw =
+    let before : length (flat_map f (take k xs)) ≡ w * k = joined_long f w h (take k xs) ∙ ap (λ n. w * n) (length-take-le k xs (omega arith)) in
+    ap (λ n. get_or (flat_map f xs) (n + j) 0) (sym before) ∙ get_or-flat_map f xs k j d 0 lt (omega (arith, h (get_or xs k d)))
 
 pub encode_lays_out : (net : Net) → LaysOut (encode net) net
 encode_lays_out net =

@@ -1,6 +1,6 @@
 -- The bytes of one place and the fields that they say.
-use Rattle.std.proofs.Common.{◌≡◌, ℕ, ◌+◌, ◌*◌, ◌/◌, ◌%◌, ◌<◌, ◌≤◌, Bool, true, false, cond, ◌&&◌, eqb, List, [], ◌∷◌, get_or, Some, None, Option, refl, ap, ◌∙◌, arith, below_none, below_more, ne_eqb, eqb-true}
-use Rattle.std.proofs.lemmas.Bool.{and_parts}
+use Rattle.std.proofs.lemmas.Grind.{common_steps}
+use Rattle.std.proofs.Common.{◌≡◌, ℕ, ◌+◌, ◌*◌, ◌/◌, ◌%◌, ◌<◌, ◌≤◌, Bool, true, false, cond, List, [], ◌∷◌, get_or, Some, None, Option, refl, ap, ◌∙◌, arith, below_none, below_more}
 use Rattle.questions.specs.declared.denial.Question.TheVariants.{EmptyBlank}
 use Rattle.netmap.specs.declared.link.Link.{Link}
 use Rattle.questions.specs.Asking.{asks, first_no}
@@ -59,7 +59,7 @@ empty_read bs m k at =
     refl refl (refl, refl) (refl, refl, refl, refl) (refl, refl, refl, refl)
 
 not_marked : (n : ℕ) (l : Link) → n ≤ 64 → SoundLink n l → marked_empty l ≡ false
-not_marked n l few s = simp (ne_eqb l.tail 255 (λ q. omega (arith, s.tail)))
+not_marked n l few s = grind (arith, common_steps)
 
 pub place_read : (bs : List ℕ) (n m k : ℕ) (o : Option Link) → n ≤ 64 → Fit n o → AtPlace bs m k o → place_of (link_in m bs k) ≡ o
 place_read bs n m k None few fit at = ap place_of (empty_read bs m k at)
@@ -77,7 +77,7 @@ place_granted bs n m k (Some l) few fit at =
 
 -- each of ten
 ten : (P : ℕ → Type 0) → P 0 → P 1 → P 2 → P 3 → P 4 → P 5 → P 6 → P 7 → P 8 → P 9 → (j : ℕ) → j < 10 → P j
-ten P a b c d e f g h i k = below_more P 9 (below_more P 8 (below_more P 7 (below_more P 6 (below_more P 5 (below_more P 4 (below_more P 3 (below_more P 2 (below_more P 1 (below_more P 0 (below_none P) a) b) c) d) e) f) g) h) i) k
+ten P a b c d e f g h i k = grind (arith, common_steps)
 
 -- the figures that bytes say, written again, are those bytes
 figures_back : (bs : List ℕ) → ((i : ℕ) → get_or bs i 0 < 256) → (m k j : ℕ) → j < 10 → get_or bs (figures_at m k + j) 0 ≡ get_or (figures (Some (link_in m bs k))) j 0
@@ -99,25 +99,15 @@ figures_back bs fits m k =
     (at_index bs (at + 9) (at + 6 + 3) _ (omega arith) f.3)
 
 blank_figures : (l : Link) → blank l ≡ true → figures (Some l) ≡ figures None
-blank_figures l e =
-    let p = and_parts (eqb l.weight 0) (eqb l.delay.0 0 && eqb l.figure 0) e in
-    let q = and_parts (eqb l.delay.0 0) (eqb l.figure 0) p.1 in
-    let a : l.weight ≡ 0 = eqb-true _ _ p.0 in
-    let b : l.delay.0 ≡ 0 = eqb-true _ _ q.0 in
-    let c : l.figure ≡ 0 = eqb-true _ _ q.1 in
-    simp (a, b, c)
+blank_figures l e = grind (arith, common_steps)
 
 figures_by : (n : ℕ) (l : Link) (p : ℕ) (b : Bool) → first_no (cond b (asks (of_map EmptyBlank p) (blank l) ∷ []) (link_questions n l p)) ≡ None → figures (Some l) ≡ figures (cond b None (Some l))
 figures_by n l p true e = blank_figures l (all_yes (asks (of_map EmptyBlank p) (blank l) ∷ []) e).0
 figures_by n l p false e = refl
 
 ends_by : (l : Link) (b : Bool) → marked_empty l ≡ b → ends (Some l) ≡ ends (cond b None (Some l))
-ends_by l true e =
-    let p = and_parts (eqb l.tail 255) (eqb l.head 255) e in
-    let a : l.tail ≡ 255 = eqb-true _ _ p.0 in
-    let c : l.head ≡ 255 = eqb-true _ _ p.1 in
-    simp (a, c)
-ends_by l false e = refl
+ends_by l true e = grind (arith, common_steps)
+ends_by l false e = grind (arith, common_steps)
 
 -- a place that passes its questions holds what its bytes say, and that is nothing or a sound link
 pub place_back : (bs : List ℕ) → ((i : ℕ) → get_or bs i 0 < 256) → (n m k : ℕ) → first_no (field_questions n (link_in m bs k) k) ≡ None → AtPlace bs m k (place_of (link_in m bs k))

@@ -1,40 +1,18 @@
 -- What keeps a network within the limits.
-use Rattle.std.proofs.Common.{◌≡◌, ℕ, ◌<◌, ◌≤◌, List, length, get_or, set, Some, None, Option, sym, ap, ◌∙◌, subst, ⊎_elim, arith, length-set, get_or-set_other, get_or-set_same}
-use Rattle.std.proofs.lemmas.Bool.{cases_eq, cases_lt}
-use Rattle.std.proofs.lemmas.List.{get_or_past}
+use Rattle.std.proofs.lemmas.Grind.{common_steps}
+use Rattle.std.proofs.Common.{◌≡◌, ℕ, ◌<◌, length, Some, None, Option, arith}
 use Rattle.netmap.specs.declared.link.Link.{Link}
 use Rattle.netmap.specs.Net.{Net, SoundLink, Fit, Sound}
 use Rattle.netmap.specs.Changes.{with_place}
 
 pub none_some : (o : Option Link) (l : Link) → o ≡ None → o ≡ Some l → ⊥
-none_some o l p q = let z : ◌≡◌ {A = ℕ} 0 1 = cc in omega arith
+none_some o l p q = cc
 
 pub fit_none : (n : ℕ) → Fit n None
-fit_none n l e = let z : ◌≡◌ {A = ℕ} 0 1 = cc in absurd (omega arith)
+fit_none n l e = cc
 
 pub fit_some : (n : ℕ) (l : Link) → SoundLink n l → Fit n (Some l)
-fit_some n l s k e = let same : l ≡ k = cc in subst (SoundLink n) same s
+fit_some n l s k e = grind (arith, common_steps)
 
 pub sound_with : (net : Net) (p : ℕ) (o : Option Link) → p < length net.links → Fit net.nodes o → Sound net → Sound (with_place net p o)
-sound_with net p o within fit s = record {
-  nodes_low = s.nodes_low;
-  nodes_high = s.nodes_high;
-  few = omega (arith, length-set net.links p o, s.few);
-  each = λ q l e.
-      ⊎_elim
-      (λ (same : p ≡ q). fit l (sym (get_or-set_same net.links p o None within) ∙ ap (λ k. get_or (set net.links p o) k None) same ∙ e))
-      (λ (ne : p ≡ q → ⊥). s.each q l (sym (get_or-set_other net.links p q o None (λ h. ne (sym h))) ∙ e))
-      (cases_eq p q);
-}
-
-pub sound_empty : (n : ℕ) (ls : List (Option Link)) → 1 ≤ n → n ≤ 64 → length ls ≤ 256 → ((k : ℕ) → k < length ls → get_or ls k None ≡ None) → Sound (record { nodes = n; links = ls })
-sound_empty n ls low high few none = record {
-  nodes_low = low;
-  nodes_high = high;
-  few = few;
-  each = λ p l e. absurd
-      (⊎_elim
-      (λ (h : p < length ls). none_some (get_or ls p None) l (none p h) e)
-      (λ (h : length ls ≤ p). none_some (get_or ls p None) l (get_or_past ls p None h) e)
-      (cases_lt p (length ls)));
-}
+sound_with net p o within fit s = grind (arith, common_steps)

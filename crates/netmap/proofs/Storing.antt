@@ -1,36 +1,15 @@
 -- Storing a network, its sizes and then place by place.
 use Rattle.std.proofs.Common.{◌≡◌, ℕ, ◌+◌, ◌-◌, ◌*◌, ◌<◌, ◌≤◌, List, ◌++◌, length, get_or, take, drop, sym, ap, ◌∙◌, subst, ⊎_elim, arith, length-drop}
 use lib.Seq.{take-append-le}
-use Rattle.std.proofs.lemmas.List.{same_lists, get_or-take, get_or-drop, get_or_default, length-take-le, take-append-drop, take_all, get_or_append_left, get_or-append-add}
-use Rattle.std.proofs.lemmas.Bool.{cases_lt, cases_eq}
-use Rattle.netmap.specs.Layout.{two_bytes, encode, image_size}
+use Rattle.std.proofs.lemmas.List.{same_lists, get_or-take, get_or-drop, get_or_default, length-take-le, take-append-drop, take_all}
+use Rattle.std.proofs.lemmas.Bool.{cases_eq}
+use Rattle.netmap.specs.Layout.{encode, image_size}
 use Rattle.netmap.specs.Net.{Net, Sound, places, link_at}
 use Rattle.netmap.specs.Spans.{Written, AtPlace, PlaceWritten}
 use Rattle.netmap.specs.Storing.{stored, OpensAs}
 use Rattle.netmap.proofs.Layouts.{LaysOut, header, encode_lays_out, lays_out_encode}
 use Rattle.netmap.proofs.RoundTrips.{opens_as}
 use Rattle.netmap.proofs.Writing.{place_kept, sizes_outside, past_outside}
-
-pub record Sized (old new : List ℕ) (net : Net) : Type 0 where
-  pub long : length new ≡ length old
-  pub sizes : (j : ℕ) → j < 4 → get_or new j 0 ≡ get_or (header net) j 0
-  pub past : (i : ℕ) → 4 ≤ i → get_or new i 0 ≡ get_or old i 0
-
--- the node count and then the place count
-pub sizes_stored : (old mid new : List ℕ) (net : Net) → Written old mid 0 (two_bytes net.nodes) 2 → Written mid new 2 (two_bytes (places net)) 2 → Sized old new net
-sizes_stored old mid new net a b = record {
-  long = b.long ∙ a.long;
-  sizes = λ j h. ⊎_elim
-      (λ (lo : j < 2).
-      b.below j lo ∙ (let same : j ≡ 0 + j = omega arith in ap (λ x. get_or mid x 0) same ∙ a.inside j lo)
-      ∙ sym (get_or_append_left (two_bytes net.nodes) (two_bytes (places net)) 0 j lo))
-      (λ (hi : 2 ≤ j).
-      let same : j ≡ 2 + (j - 2) = omega arith in
-      subst (λ x. get_or new x 0 ≡ get_or (header net) x 0) (sym same)
-      (b.inside (j - 2) (omega arith) ∙ sym (get_or-append-add (two_bytes net.nodes) (two_bytes (places net)) (j - 2) 0)))
-      (cases_lt j 2);
-  past = λ i h. b.past i (omega arith) ∙ a.past i (omega arith);
-}
 
 -- the first p places are stored, and the sizes and what lies past the image are as they were
 pub record Filled (old new : List ℕ) (net : Net) (p : ℕ) : Type 0 where
@@ -53,15 +32,14 @@ filled_more old bs new net p s lt w =
       past = λ i h. w.elsewhere i (past_outside m p i lt h) ∙ s.past i h;
     }
 
-pub all_stored : (old first mid new : List ℕ) (net : Net) → Written old first 0 (two_bytes net.nodes) 2 → Written first mid 2 (two_bytes (places net)) 2 → Filled mid new net (places net) → image_size (places net) ≤ length old → new ≡ stored net old
-all_stored old first mid new net nodes counted s room =
-    let a = sizes_stored old first mid net nodes counted in
+pub all_stored : (old mid new : List ℕ) (net : Net) → Written old mid 0 (header net) 4 → Filled mid new net (places net) → image_size (places net) ≤ length old → new ≡ stored net old
+all_stored old mid new net a s room =
     let n = image_size (places net) in
     let el : length (encode net) ≡ n = (encode_lays_out net).long in
     let at_front : (i : ℕ) → i < n → get_or (take n new) i 0 ≡ get_or new i 0 = λ i h. get_or-take n new i 0 h in
     let laid : LaysOut (take n new) net = record {
       long = length-take-le n new (omega (arith, s.long, a.long));
-      sizes = λ j h. at_front j (omega arith) ∙ s.sizes j h ∙ a.sizes j h;
+      sizes = λ j h. at_front j (omega arith) ∙ s.sizes j h ∙ (let same : j ≡ 0 + j = omega arith in ap (λ x. get_or mid x 0) same ∙ a.inside j h);
       place = λ k h. record {
         ends = λ j g. at_front (4 + 2 * k + j) (omega arith) ∙ (s.place k h).ends j g;
         figures = λ j g. at_front (4 + 2 * places net + 10 * k + j) (omega arith) ∙ (s.place k h).figures j g;

@@ -1,18 +1,16 @@
 -- What bytes hold once some of them are written.
-use Rattle.std.proofs.Common.{◌≡◌, ℕ, ◌+◌, ◌<◌, ◌≤◌, List, ◌++◌, length, get_or, set, None, Option, sym, ap, ◌∙◌, subst, inl, inr, ⊎_elim, arith, length-set, get_or-set_other, get_or-set_same}
-use Rattle.std.proofs.lemmas.Bool.{cases_lt, cases_eq}
+use Rattle.std.proofs.lemmas.Grind.{common_steps}
+use Rattle.std.proofs.Common.{◌≡◌, ℕ, ◌+◌, ◌<◌, ◌≤◌, List, ◌++◌, length, get_or, set, None, Option, sym, ap, ◌∙◌, subst, inl, inr, ⊎_elim, arith, length-set}
+use Rattle.std.proofs.lemmas.Bool.{cases_lt}
 use Rattle.netmap.specs.declared.link.Link.{Link}
 use Rattle.netmap.specs.Changes.{with_place}
 use Rattle.netmap.specs.Layout.{two_bytes, encode, image_size}
 use Rattle.netmap.specs.Net.{Fit, Net, Sound, places, link_at}
 use Rattle.netmap.specs.Reading.{decode, ends_at, figures_at}
-use Rattle.netmap.specs.Spans.{Written, AtPlace, Outside, PlaceWritten}
+use Rattle.netmap.specs.Spans.{AtPlace, Outside, PlaceWritten}
 use Rattle.netmap.proofs.Decoding.{decode_places, decode_laid_out}
 use Rattle.netmap.proofs.Layouts.{LaysOut, lays_out_encode, image_lays_out}
 use Rattle.netmap.proofs.Soundness.{sound_with}
-
-pub written_as : (old new : List ℕ) (at : ℕ) (s t : List ℕ) (v w : ℕ) → s ≡ t → v ≡ w → Written old new at s v → Written old new at t w
-written_as old new at s t v w e f h = subst (λ x. Written old new at t x) f (subst (λ x. Written old new at x v) e h)
 
 -- the other places are as they were
 pub place_kept : (old new : List ℕ) (m p k : ℕ) (o q : Option Link) → (k ≡ p → ⊥) → k < m → p < m → PlaceWritten old new m p o → AtPlace old m k q → AtPlace new m k q
@@ -37,11 +35,7 @@ pub past_outside : (m p i : ℕ) → p < m → image_size m ≤ i → Outside m 
 past_outside m p i lt h = record { ends = inr (omega arith); figures = inr (omega arith) }
 
 at_set : (bs : List ℕ) (m k p : ℕ) (ls : List (Option Link)) (o : Option Link) → p < length ls → ((k ≡ p → ⊥) → AtPlace bs m k (get_or ls k None)) → AtPlace bs m p o → AtPlace bs m k (get_or (set ls p o) k None)
-at_set bs m k p ls o lt other here =
-    ⊎_elim
-    (λ (e : k ≡ p). subst (λ x. AtPlace bs m x (get_or (set ls p o) x None)) (sym e) (subst (AtPlace bs m p) (sym (get_or-set_same ls p o None lt)) here))
-    (λ (ne : k ≡ p → ⊥). subst (AtPlace bs m k) (sym (get_or-set_other ls p k o None ne)) (other ne))
-    (cases_eq k p)
+at_set bs m k p ls o lt other here = grind (arith, common_steps)
 
 change_lays_out : (old new : List ℕ) (net : Net) (p : ℕ) (o : Option Link) → LaysOut old net → p < places net → PlaceWritten old new (places net) p o → LaysOut new (with_place net p o)
 change_lays_out old new net p o s lt w =

@@ -13,7 +13,7 @@ const MAX_FIGURE: u32 = 1_000_000;
 pub(crate) fn check_link(nodes: usize, link: Link, place: usize) -> Result<(), Denial>
     ensures { result ≡ reply (first_no (link_questions nodes link place)) tt }
 {
-    if link.tail as usize >= nodes || link.head as usize >= nodes {
+    if usize::from(link.tail) >= nodes || usize::from(link.head) >= nodes {
         return Err(Denial::new(Question::EndsExist, Layer::Map, place));
     }
     if link.tail == link.head {

@@ -1,7 +1,7 @@
 // The bytes of an image, taken apart as fields and made from them.
-ghost use Rattle.std.specs.Prelude.{◌≡◌, ◌+◌, ◌<◌, ◌≤◌, length, Some, None, MatchResult, slice_index};
+ghost use Rattle.std.specs.Prelude.{◌≡◌, ◌+◌, ◌<◌, ◌≤◌, ◌++◌, length, Some, None, MatchResult, slice_index};
 ghost use Rattle.questions.specs.Asking.{first_no, reply};
-ghost use Rattle.netmap.specs.Layout.{ends, figures, image_size, Images};
+ghost use Rattle.netmap.specs.Layout.{two_bytes, ends, figures, image_size, Images};
 ghost use Rattle.netmap.specs.Reading.{two_at, four_at, link_in, marked_empty, place_of, field_questions, header_questions, image_denial, decode};
 ghost use Rattle.netmap.specs.Spans.{Written, PlaceWritten};
 
@@ -134,11 +134,22 @@ fn figure_bytes(held: Option<Link>) -> [u8; 10]
     }
 }
 
-pub(crate) fn write_run(bytes: &mut [u8], at: usize, run: &[u8])
+fn write_run(bytes: &mut [u8], at: usize, run: &[u8])
     requires { at + length run.now ≤ length bytes.old }
     ensures { Written bytes.old bytes.new at run.now (length run.now) }
 {
     bytes[at..at + run.len()].copy_from_slice(run);
+}
+
+pub(crate) fn write_sizes(bytes: &mut [u8], sizes: Sizes)
+    requires room { 4 ≤ length bytes.old }
+    requires nodes { sizes.nodes < 65536 }
+    requires places { sizes.places < 65536 }
+    ensures { Written bytes.old bytes.new 0 (two_bytes sizes.nodes ++ two_bytes sizes.places) 4 }
+{
+    let [n0, n1] = (sizes.nodes as u16).to_be_bytes();
+    let [p0, p1] = (sizes.places as u16).to_be_bytes();
+    write_run(bytes, 0, &[n0, n1, p0, p1]);
 }
 
 // Writes one of so many places.

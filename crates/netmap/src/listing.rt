@@ -1,6 +1,6 @@
 // The text of a map, for the person who enrols a carrier.
-ghost use Rattle.std.specs.Prelude.{◌≡◌, ◌++◌, IfOk, Some, string_bytes, OnOk};
-ghost use Rattle.netmap.specs.Texts.{link_text, place_text, places_text, listed, Reports};
+ghost use Rattle.std.specs.Prelude.{◌≡◌, IfOk, Some, string_bytes};
+ghost use Rattle.netmap.specs.Texts.{link_text, listed, Reports};
 
 use crate::image::Image;
 use crate::link::Link;
@@ -29,37 +29,18 @@ impl fmt::Display for Row {
     }
 }
 
-// Adds the line of a place to the text; an empty place has none.
-fn add_place(text: &mut String, place: usize, held: Option<Link>) -> Result<(), AllocError>
-    ensures { OnOk result (string_bytes text.new ≡ string_bytes text.old ++ place_text place held) }
-{
-    if let Some(link) = held {
-        writeln!(text, "{}", Row { place, link })?;
-    }
-    Ok(())
-}
-
 // The counts of a map, then a line for each filled place.
 pub fn listing<M: Map>(heap: Global, map: &M) -> Result<String, AllocError>
     ensures { IfOk result (λ text. string_bytes text ≡ listed (M.meaning map.now)) }
 {
-    let sizes = Sizes {
-        nodes: map.nodes(),
-        places: map.places(),
-    };
-    let mut text = format!(in heap; "{sizes}\n")?;
-    add_places(&mut text, map)?;
-    Ok(text)
-}
-
-fn add_places<M: Map>(text: &mut String, map: &M) -> Result<(), AllocError>
-    ensures { OnOk result (string_bytes text.new ≡ string_bytes text.old ++ places_text 0 (M.meaning map.now).links) }
-{
+    let mut text = format!(in heap; "{}\n", Sizes::of(map))?;
     // a line begins with the number of its place
     for place in 0..map.places() {
-        add_place(text, place, held(map, place))?;
+        if let Some(link) = held(map, place) {
+            writeln!(text, "{}", Row { place, link })?;
+        }
     }
-    Ok(())
+    Ok(text)
 }
 
 // The listing of the map whose image the bytes are, or the line of its refusal.

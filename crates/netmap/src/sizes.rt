@@ -2,12 +2,13 @@
 ghost use Rattle.std.specs.Prelude.{◌≡◌, ◌<◌, Some};
 ghost use Rattle.questions.specs.Asking.{first_no, reply, Checks};
 ghost use Rattle.netmap.specs.Changes.{place_questions, put_questions};
-ghost use Rattle.netmap.specs.Net.{Fit};
+ghost use Rattle.netmap.specs.Net.{Fit, places as place_count};
 ghost use Rattle.netmap.specs.Opening.{size_denial};
 ghost use Rattle.netmap.specs.Texts.{counts_text};
 
 use crate::checks::check_link;
 use crate::link::Link;
+use crate::map::Map;
 use questions::{Denial, Layer, Question};
 use std::fmt;
 
@@ -27,6 +28,16 @@ impl Sizes {
         nodes: 1,
         places: 0,
     };
+
+    pub(crate) fn of<M: Map>(map: &M) -> Sizes
+        ensures nodes { result.nodes ≡ (M.meaning map.now).nodes }
+        ensures places { result.places ≡ place_count (M.meaning map.now) }
+    {
+        Sizes {
+            nodes: map.nodes(),
+            places: map.places(),
+        }
+    }
 
     pub(crate) fn check(self) -> Result<(), Denial>
         ensures { result ≡ reply (size_denial self.nodes self.places) tt }

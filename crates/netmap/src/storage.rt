@@ -1,12 +1,13 @@
 // Storing any map as an image.
-ghost use Rattle.std.specs.Prelude.{◌≡◌, ◌≤◌, length, take, IfOk};
+ghost use Rattle.std.specs.Prelude.{◌≡◌, length, take, IfOk};
 ghost use Rattle.questions.specs.Asking.{reply, unless};
 ghost use Rattle.netmap.specs.Layout.{image_size};
 ghost use Rattle.netmap.specs.Net.{places as place_count};
 ghost use Rattle.netmap.specs.Storing.{store_denial, stored, OpensAs};
 
-use crate::fields::{write_place, write_run};
+use crate::fields::{write_place, write_sizes};
 use crate::map::{Map, held};
+use crate::sizes::Sizes;
 use questions::{Denial, Layer, Question};
 
 // Writes the image of a map at the front of the space, and says how long it is.
@@ -15,24 +16,15 @@ pub fn store<M: Map>(map: &M, space: &mut [u8]) -> Result<usize, Denial>
     ensures after { space.new ≡ unless (store_denial (M.meaning map.now) (length space.old)) (stored (M.meaning map.now) space.old) space.old }
     ensures reopens { IfOk result (λ size. OpensAs (take size space.new) (M.meaning map.now)) }
 {
-    let size = 4 + 12 * map.places();
+    let sizes = Sizes::of(map);
+    let size = 4 + 12 * sizes.places;
     if space.len() < size {
         return Err(Denial::new(Question::StoreSpace, Layer::File, space.len()));
     }
-    lay_out(map, space);
-    Ok(size)
-}
-
-fn lay_out<M: Map>(map: &M, space: &mut [u8])
-    requires { image_size (place_count (M.meaning map.now)) ≤ length space.old }
-    ensures after { space.new ≡ stored (M.meaning map.now) space.old }
-    ensures reopens { OpensAs (take (image_size (place_count (M.meaning map.now))) space.new) (M.meaning map.now) }
-{
-    let places = map.places();
-    write_run(space, 0, &(map.nodes() as u16).to_be_bytes());
-    write_run(space, 2, &(places as u16).to_be_bytes());
+    write_sizes(space, sizes);
     // a place is read and written by its number
-    for place in 0..places {
-        write_place(space, places, place, held(map, place));
+    for place in 0..sizes.places {
+        write_place(space, sizes.places, place, held(map, place));
     }
+    Ok(size)
 }

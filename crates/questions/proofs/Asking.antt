@@ -1,9 +1,9 @@
 -- The first question answered no: what a reply says of it, and where it stands in joined lists.
-use Rattle.std.proofs.Common.{◌≡◌, ℕ, zero, suc, ◌+◌, ◌<◌, ◌≤◌, Bool, true, false, List, [], ◌∷◌, ◌++◌, Some, None, Ok, Err, Option, Result, sym, refl, ap, ◌∙◌, ⊎_elim, arith}
+use Rattle.std.proofs.Common.{◌≡◌, ℕ, zero, suc, ◌+◌, ◌<◌, ◌≤◌, Bool, true, false, List, [], ◌∷◌, ◌++◌, Some, None, Ok, Err, Option, Result, refl, ap, ◌∙◌, ⊎_elim, arith}
 use Rattle.std.specs.List.{range_with_len, flat_map}
 use Rattle.std.proofs.lemmas.Bool.{cases_eq}
 use Rattle.questions.specs.declared.denial.Denial.{Denial}
-use Rattle.questions.specs.Asking.{Asked, asks, first_no, reply, unless}
+use Rattle.questions.specs.Asking.{Asked, asks, first_no, reply}
 
 -- what a reply tells of the denial
 pub granted : {A : Type 0} (d : Option Denial) (x a : A) → ◌≡◌ {A = Result A Denial} (Ok x) (reply d a) → d ≡ None

@@ -2,7 +2,7 @@
 ghost use Rattle.std.specs.Prelude.{◌≡◌, ◌<◌, length, replicate, Some, None, slice_set};
 ghost use Rattle.questions.specs.Asking.{reply, unless};
 ghost use Rattle.netmap.specs.Changes.{with_place, put_denial, put_reply, after_put, remove_denial, remove_reply, after_remove};
-ghost use Rattle.netmap.specs.Net.{Fit, places as place_count, link_at};
+ghost use Rattle.netmap.specs.Net.{Fit, places as place_count};
 ghost use Rattle.netmap.specs.Opening.{no_places, all_empty, size_denial};
 ghost use Rattle.netmap.specs.Tables.{table_net, table_sound, records_of};
 
@@ -57,13 +57,6 @@ impl<'a> RecordTable<'a> {
         }
     }
 
-    fn held(&self, place: usize) -> Option<Link>
-        requires { place < place_count (table_net self.now) }
-        ensures { result ≡ link_at (table_net self.now) place }
-    {
-        self.records[place]
-    }
-
     fn change(&mut self, place: usize, held: Option<Link>)
         requires within { place < place_count (table_net self.old) }
         requires fit { Fit (table_net self.old).nodes held }
@@ -75,6 +68,7 @@ impl<'a> RecordTable<'a> {
     }
 }
 
+// `put` and `remove` also tell what the records hold, as an image's tell its bytes: so neither is a default of `Map`.
 impl<'a> Map for RecordTable<'a> {
     ghost meaning = { table_net };
 
@@ -90,7 +84,7 @@ impl<'a> Map for RecordTable<'a> {
 
     fn read(&self, place: usize) -> Result<Option<Link>, Denial> {
         self.sizes().check_place(place)?;
-        Ok(self.held(place))
+        Ok(self.records[place])
     }
 
     fn put(&mut self, place: usize, link: Link) -> Result<(), Denial>
@@ -110,8 +104,7 @@ impl<'a> Map for RecordTable<'a> {
         ensures holds { records_of self.new ≡ unless (remove_denial (table_net self.old) place) (slice_set (records_of self.old) place None) (records_of self.old) }
         ensures named { self.new.records.ghost_name ≡ self.old.records.ghost_name }
     {
-        self.sizes().check_place(place)?;
-        check_filled(self.held(place), place)?;
+        check_filled(self.read(place)?, place)?;
         self.change(place, None);
         Ok(())
     }
