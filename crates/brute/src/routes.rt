@@ -146,8 +146,10 @@ fn add_routes(
     routes: &mut BTreeMap<(u8, u8), Route>,
 ) -> Result<(), AllocError> {
     for chain in chains.iter().filter(|chain| chain.end != from) {
-        let route = routes.entry((from, chain.end))?.or_insert(chain.route);
-        *route = route.merge(chain.route);
+        routes
+            .entry((from, chain.end))?
+            .and_modify(|route| *route = route.merge(chain.route))
+            .or_insert(chain.route);
     }
     Ok(())
 }
