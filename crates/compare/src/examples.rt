@@ -29,6 +29,7 @@ fn ask_within(bound: u32) -> Ask {
 }
 
 // Whether the engine answers each example as it should.
+// The network is also a test's in `segments_tests`: a crate to share it would be longer than the table.
 pub(crate) fn compare_examples(heap: Global, space: &mut Space<Cost>) -> anyhow::Result<[bool; 2]> {
     let places = [
         link(0, 1, 1, 4000, 10),
