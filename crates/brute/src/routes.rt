@@ -29,8 +29,8 @@ impl Rule {
     }
 }
 
-// What a chain of links comes to, or what all best chains between two nodes do.
-#[derive(Clone, Copy)]
+// What a chain of links comes to, or what all best chains between two nodes do; the default is of no links.
+#[derive(Clone, Copy, Default)]
 pub struct Route {
     pub weight: u32,
     pub delay: u32,
@@ -83,73 +83,52 @@ impl<'a> Net<'a> {
         nodes: u8,
         places: &'a [Option<Link>],
     ) -> Result<Net<'a>, AllocError> {
-        let mut routes = BTreeMap::new(heap);
-        for from in 0..nodes {
-            let chains = chains_from(heap, rule, nodes, places, from)?;
-            add_routes(from, &chains, &mut routes)?;
-        }
-        Ok(Net {
+        let mut net = Net {
             rule,
             nodes,
             places,
-            routes,
+            routes: BTreeMap::new(heap),
+        };
+        for from in 0..nodes {
+            let chains = net.chains_from(heap, from)?;
+            net.add_routes(from, &chains)?;
+        }
+        Ok(net)
+    }
+
+    // All chains of fewer links than there are nodes; as weights are positive, no best one is longer.
+    fn chains_from(&self, heap: Global, from: u8) -> Result<Vec<Chain>, AllocError> {
+        let first = Chain {
+            end: from,
+            route: Route::default(),
+        };
+        let rounds = u16::from(self.nodes.saturating_sub(1));
+        grown(heap, first, rounds, |chain, made| {
+            self.add_longer(*chain, made)
         })
     }
-}
 
-// All chains of fewer links than there are nodes; as weights are positive, no best one is longer.
-fn chains_from(
-    heap: Global,
-    rule: Rule,
-    nodes: u8,
-    places: &[Option<Link>],
-    from: u8,
-) -> Result<Vec<Chain>, AllocError> {
-    let first = Chain {
-        end: from,
-        route: Route {
-            weight: 0,
-            delay: 0,
-            value: 0,
-        },
-    };
-    grown(
-        heap,
-        first,
-        u16::from(nodes.saturating_sub(1)),
-        |chain, made| add_longer(rule, places, *chain, made),
-    )
-}
-
-// Adds the chains that have one link more than the given one.
-fn add_longer(
-    rule: Rule,
-    places: &[Option<Link>],
-    chain: Chain,
-    made: &mut Vec<Chain>,
-) -> Result<(), AllocError> {
-    for link in places.iter().flatten() {
-        if link.tail == chain.end {
-            made.push(Chain {
-                end: link.head,
-                route: chain.route.longer(rule, *link),
-            })?;
+    // Adds the chains that have one link more than the given one.
+    fn add_longer(&self, chain: Chain, made: &mut Vec<Chain>) -> Result<(), AllocError> {
+        for link in self.places.iter().flatten() {
+            if link.tail == chain.end {
+                made.push(Chain {
+                    end: link.head,
+                    route: chain.route.longer(self.rule, *link),
+                })?;
+            }
         }
+        Ok(())
     }
-    Ok(())
-}
 
-// Merges into the routes what each chain that ends elsewhere comes to.
-fn add_routes(
-    from: u8,
-    chains: &[Chain],
-    routes: &mut BTreeMap<(u8, u8), Route>,
-) -> Result<(), AllocError> {
-    for chain in chains.iter().filter(|chain| chain.end != from) {
-        routes
-            .entry((from, chain.end))?
-            .and_modify(|route| *route = route.merge(chain.route))
-            .or_insert(chain.route);
+    // Merges into the routes what each chain that ends elsewhere comes to.
+    fn add_routes(&mut self, from: u8, chains: &[Chain]) -> Result<(), AllocError> {
+        for chain in chains.iter().filter(|chain| chain.end != from) {
+            self.routes
+                .entry((from, chain.end))?
+                .and_modify(|route| *route = route.merge(chain.route))
+                .or_insert(chain.route);
+        }
+        Ok(())
     }
-    Ok(())
 }
