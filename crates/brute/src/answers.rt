@@ -43,11 +43,10 @@ fn lists_within(heap: Global, net: &Net<'_>, ask: Ask) -> Result<Vec<List>, Allo
 // The list within what is asked that precedes all others.
 pub fn best_list(heap: Global, net: &Net<'_>, ask: Ask) -> Result<Option<List>, AllocError> {
     let lists = lists_within(heap, net, ask)?;
-    Ok(
-        lists
-            .into_iter()
-            .min_by(|a, b| a.precedence().cmp(&b.precedence())),
-    )
+    let best = lists
+        .into_iter()
+        .min_by(|a, b| a.precedence().cmp(&b.precedence()));
+    Ok(best)
 }
 
 // The grains and the value of each list within what is asked.
