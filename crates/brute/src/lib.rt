@@ -2,9 +2,10 @@
 #![tactic(auto)]
 
 pub mod answers;
+mod growth;
 pub mod lists;
 pub mod routes;
 
-pub use answers::{Ask, best_list, on_front, pairs_within, walked};
-pub use lists::{List, packed};
-pub use routes::{Net, Rule};
+pub use answers::{Ask, Pair, best_list, on_front, pairs_within, walked};
+pub use lists::{List, Outcome};
+pub use routes::{Net, Route, Rule};

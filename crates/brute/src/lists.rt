@@ -1,138 +1,118 @@
 // Segment lists, all of them up to a number of entries.
+use crate::growth::grown;
 use crate::routes::Net;
 use std::alloc::{AllocError, Global};
 
 // The code of the link at place 0.
 const FIRST_LINK: u16 = 256;
 
-// A segment list and its figures.
-// Its codes are the digits of a number in base 512, so that lists of one length stand in the order of their numbers.
+// What a list comes to: where it ends, its value, and its delay in grains and in microseconds.
 #[derive(Clone, Copy, PartialEq, Eq, Debug)]
-pub struct List {
+pub struct Outcome {
     pub end: u8,
     pub value: u32,
     pub grains: u32,
     pub delay: u32,
-    pub entries: u16,
-    pub codes: u64,
+}
+
+// A segment list and what it comes to.
+#[derive(PartialEq, Eq, Debug, Drop)]
+pub struct List {
+    pub codes: Vec<u16>,
+    pub outcome: Outcome,
 }
 
 // What an entry does at a node.
 #[derive(Clone, Copy)]
-pub struct Leap {
+struct Leap {
     to: u8,
     delay: u32,
     value: u32,
 }
 
-fn add_digit(codes: u64, code: u16) -> u64 {
-    codes.wrapping_mul(512).wrapping_add(code as u64)
-}
-
-// The number that stands for the codes of a list.
-pub fn packed(codes: &[u16]) -> u64 {
-    let mut number = 0;
-    for code in codes.iter() {
-        number = add_digit(number, *code);
-    }
-    number
-}
-
-pub(crate) fn empty_list(source: u8) -> List {
-    List {
-        end: source,
-        value: 0,
-        grains: 0,
-        delay: 0,
-        entries: 0,
-        codes: 0,
-    }
-}
-
 // Along all best paths to a node.
-fn leap_to_node(net: &Net<'_>, at: u8, code: u16) -> Option<Leap> {
-    for route in net.routes.iter() {
-        if route.from == at && route.to as u16 == code {
-            return Some(Leap {
-                to: route.to,
-                delay: route.delay,
-                value: route.value,
-            });
-        }
-    }
-    None
+fn leap_to_node(net: &Net<'_>, at: u8, to: u8) -> Option<Leap> {
+    net.routes.get(&(at, to)).map(|route| Leap {
+        to,
+        delay: route.delay,
+        value: route.value,
+    })
 }
 
 // Along the link at a place, from its tail only.
 fn leap_by_link(net: &Net<'_>, at: u8, place: usize) -> Option<Leap> {
     let link = net.places.get(place).copied()??;
-    if link.tail != at {
-        return None;
-    }
-    Some(Leap {
+    (link.tail == at).then(|| Leap {
         to: link.head,
         delay: link.delay.0,
         value: net.rule.of_link(link),
     })
 }
 
-pub(crate) fn leap_at(net: &Net<'_>, at: u8, code: u16) -> Option<Leap> {
-    if code < FIRST_LINK {
-        return leap_to_node(net, at, code);
-    }
-    leap_by_link(net, at, (code - FIRST_LINK) as usize)
-}
-
-// A delay in whole grains, where a part of a grain counts as one.
-fn whole_grains(delay: u32, grain: u32) -> u32 {
-    if grain == 0 {
-        return u32::MAX;
-    }
-    let full = delay / grain;
-    if delay % grain == 0 {
-        return full;
-    }
-    full.saturating_add(1)
-}
-
-pub(crate) fn append(net: &Net<'_>, list: List, code: u16, next: Leap, grain: u32) -> List {
-    List {
-        end: next.to,
-        value: net.rule.join(list.value, next.value),
-        grains: list.grains.saturating_add(whole_grains(next.delay, grain)),
-        delay: list.delay.saturating_add(next.delay),
-        entries: list.entries.saturating_add(1),
-        codes: add_digit(list.codes, code),
+fn leap_at(net: &Net<'_>, at: u8, code: u16) -> Option<Leap> {
+    match code.checked_sub(FIRST_LINK) {
+        Some(place) => leap_by_link(net, at, usize::from(place)),
+        None => leap_to_node(net, at, u8::try_from(code).ok()?),
     }
 }
 
-fn add_longer(
-    net: &Net<'_>,
-    list: List,
-    code: u16,
-    grain: u32,
-    all: &mut Vec<List>,
-) -> Result<(), AllocError> {
-    if let Some(next) = leap_at(net, list.end, code) {
-        all.push(append(net, list, code, next, grain))?;
+// A delay in whole grains, where a part of a grain counts as one; none if a grain has no microseconds.
+fn whole_grains(delay: u32, grain: u32) -> Option<u32> {
+    (grain != 0).then(|| delay.div_ceil(grain))
+}
+
+impl Outcome {
+    // Of a list with no entries.
+    pub(crate) fn at(source: u8) -> Outcome {
+        Outcome {
+            end: source,
+            value: 0,
+            grains: 0,
+            delay: 0,
+        }
     }
-    Ok(())
+
+    // Of a list with one entry more, if it is legal.
+    pub(crate) fn then(self, net: &Net<'_>, grain: u32, code: u16) -> Option<Outcome> {
+        let leap = leap_at(net, self.end, code)?;
+        let grains = whole_grains(leap.delay, grain)?;
+        Some(Outcome {
+            end: leap.to,
+            value: net.rule.join(self.value, leap.value),
+            grains: self.grains.saturating_add(grains),
+            delay: self.delay.saturating_add(leap.delay),
+        })
+    }
+}
+
+impl List {
+    // With one entry more, of the given code.
+    fn longer(&self, code: u16, outcome: Outcome) -> Result<List, AllocError> {
+        let mut codes = self.codes.clone()?;
+        codes.push(code)?;
+        Ok(List { codes, outcome })
+    }
+
+    // Of two lists within an order, the one with the smaller key precedes.
+    pub(crate) fn precedence(&self) -> (u32, u32, usize, &[u16]) {
+        let Outcome { value, grains, .. } = self.outcome;
+        (value, grains, self.codes.len(), &self.codes)
+    }
 }
 
 // Adds the lists that have one entry more than the given one.
-fn add_all_longer(
+fn add_longer(
     net: &Net<'_>,
-    list: List,
     grain: u32,
-    all: &mut Vec<List>,
+    list: &List,
+    made: &mut Vec<List>,
 ) -> Result<(), AllocError> {
-    for node in 0..net.nodes {
-        add_longer(net, list, node as u16, grain, all)?;
-    }
-    let mut code = FIRST_LINK;
-    for _ in net.places.iter() {
-        add_longer(net, list, code, grain, all)?;
-        code = code.saturating_add(1);
+    let nodes = 0..u16::from(net.nodes);
+    let links = (FIRST_LINK..u16::MAX).take(net.places.len());
+    for code in nodes.chain(links) {
+        if let Some(outcome) = list.outcome.then(net, grain, code) {
+            made.push(list.longer(code, outcome)?)?;
+        }
     }
     Ok(())
 }
@@ -145,17 +125,11 @@ pub(crate) fn all_lists(
     limit: u16,
     grain: u32,
 ) -> Result<Vec<List>, AllocError> {
-    let mut all = Vec::new(heap);
-    all.push(empty_list(source))?;
-    let mut first = 0;
-    for _ in 0..limit {
-        let end = all.len();
-        for i in first..end {
-            if let Some(list) = all.get(i).copied() {
-                add_all_longer(net, list, grain, &mut all)?;
-            }
-        }
-        first = end;
-    }
-    Ok(all)
+    let empty = List {
+        codes: Vec::new(heap),
+        outcome: Outcome::at(source),
+    };
+    grown(heap, empty, limit, |list, made| {
+        add_longer(net, grain, list, made)
+    })
 }

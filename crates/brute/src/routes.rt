@@ -1,8 +1,12 @@
 // Best paths, picked out of all chains of links.
+use crate::growth::grown;
 use netmap::Link;
 use std::alloc::{AllocError, Global};
+use std::cmp::Ordering;
+use std::collections::BTreeMap;
 
 // What a link is worth and how values join; the smaller is better, and 0 is neutral.
+// An enum, since the rules are two for good, and a trait would put a parameter on every type below.
 #[derive(Clone, Copy)]
 pub enum Rule {
     Cost,
@@ -12,7 +16,7 @@ pub enum Rule {
 impl Rule {
     pub(crate) fn of_link(self, link: Link) -> u32 {
         match self {
-            Rule::Cost => link.weight as u32,
+            Rule::Cost => u32::from(link.weight),
             Rule::Scarcity => link.figure,
         }
     }
@@ -25,23 +29,51 @@ impl Rule {
     }
 }
 
-// A chain of links, or what all best chains between two nodes come to.
-#[derive(Clone, Copy)]
+// What a chain of links comes to, or what all best chains between two nodes do; the default is of no links.
+#[derive(Clone, Copy, Default)]
 pub struct Route {
-    pub from: u8,
-    pub to: u8,
     pub weight: u32,
     pub delay: u32,
     pub value: u32,
 }
 
-// A network, with a route for each pair of different nodes that a chain joins.
+impl Route {
+    fn longer(self, rule: Rule, link: Link) -> Route {
+        Route {
+            weight: self.weight.saturating_add(u32::from(link.weight)),
+            delay: self.delay.saturating_add(link.delay.0),
+            value: rule.join(self.value, rule.of_link(link)),
+        }
+    }
+
+    // The lighter of two; of two as light the larger delay and the worse value, since traffic may take either.
+    fn merge(self, other: Route) -> Route {
+        match self.weight.cmp(&other.weight) {
+            Ordering::Less => self,
+            Ordering::Greater => other,
+            Ordering::Equal => Route {
+                weight: self.weight,
+                delay: self.delay.max(other.delay),
+                value: self.value.max(other.value),
+            },
+        }
+    }
+}
+
+// A chain of links: the node where it ends, and what it comes to.
+#[derive(Clone, Copy)]
+struct Chain {
+    end: u8,
+    route: Route,
+}
+
+// A network, with a route for each pair of different nodes that a chain joins, from the first to the second.
 #[derive(Drop)]
 pub struct Net<'a> {
     pub rule: Rule,
     pub nodes: u8,
     pub places: &'a [Option<Link>],
-    pub routes: Vec<Route>,
+    pub routes: BTreeMap<(u8, u8), Route>,
 }
 
 impl<'a> Net<'a> {
@@ -51,119 +83,52 @@ impl<'a> Net<'a> {
         nodes: u8,
         places: &'a [Option<Link>],
     ) -> Result<Net<'a>, AllocError> {
-        let mut routes = Vec::new(heap);
-        for from in 0..nodes {
-            let chains = chains_from(heap, rule, nodes, places, from)?;
-            add_routes(chains.as_slice(), nodes, from, &mut routes)?;
-        }
-        Ok(Net {
+        let mut net = Net {
             rule,
             nodes,
             places,
-            routes,
+            routes: BTreeMap::new(heap),
+        };
+        for from in 0..nodes {
+            let chains = net.chains_from(heap, from)?;
+            net.add_routes(from, &chains)?;
+        }
+        Ok(net)
+    }
+
+    // All chains of fewer links than there are nodes; as weights are positive, no best one is longer.
+    fn chains_from(&self, heap: Global, from: u8) -> Result<Vec<Chain>, AllocError> {
+        let first = Chain {
+            end: from,
+            route: Route::default(),
+        };
+        let rounds = u16::from(self.nodes.saturating_sub(1));
+        grown(heap, first, rounds, |chain, made| {
+            self.add_longer(*chain, made)
         })
     }
-}
 
-// All chains of fewer links than there are nodes; as weights are positive, no best one is longer.
-fn chains_from(
-    heap: Global,
-    rule: Rule,
-    nodes: u8,
-    places: &[Option<Link>],
-    from: u8,
-) -> Result<Vec<Route>, AllocError> {
-    let mut all = Vec::new(heap);
-    all.push(Route {
-        from,
-        to: from,
-        weight: 0,
-        delay: 0,
-        value: 0,
-    })?;
-    let mut first = 0;
-    for _ in 1..nodes {
-        let end = all.len();
-        for i in first..end {
-            if let Some(chain) = all.get(i).copied() {
-                add_longer(rule, places, chain, &mut all)?;
+    // Adds the chains that have one link more than the given one.
+    fn add_longer(&self, chain: Chain, made: &mut Vec<Chain>) -> Result<(), AllocError> {
+        for link in self.places.iter().flatten() {
+            if link.tail == chain.end {
+                made.push(Chain {
+                    end: link.head,
+                    route: chain.route.longer(self.rule, *link),
+                })?;
             }
         }
-        first = end;
+        Ok(())
     }
-    Ok(all)
-}
 
-// Adds the chains that have one link more than the given one.
-fn add_longer(
-    rule: Rule,
-    places: &[Option<Link>],
-    chain: Route,
-    all: &mut Vec<Route>,
-) -> Result<(), AllocError> {
-    for place in places.iter() {
-        if let Some(link) = *place {
-            if link.tail == chain.to {
-                all.push(longer(rule, chain, link))?;
-            }
+    // Merges into the routes what each chain that ends elsewhere comes to.
+    fn add_routes(&mut self, from: u8, chains: &[Chain]) -> Result<(), AllocError> {
+        for chain in chains.iter().filter(|chain| chain.end != from) {
+            self.routes
+                .entry((from, chain.end))?
+                .and_modify(|route| *route = route.merge(chain.route))
+                .or_insert(chain.route);
         }
-    }
-    Ok(())
-}
-
-fn longer(rule: Rule, chain: Route, link: Link) -> Route {
-    Route {
-        from: chain.from,
-        to: link.head,
-        weight: chain.weight.saturating_add(link.weight as u32),
-        delay: chain.delay.saturating_add(link.delay.0),
-        value: rule.join(chain.value, rule.of_link(link)),
-    }
-}
-
-// Adds the route to each other node, if any chain ends there.
-fn add_routes(
-    chains: &[Route],
-    nodes: u8,
-    from: u8,
-    routes: &mut Vec<Route>,
-) -> Result<(), AllocError> {
-    for to in 0..nodes {
-        if to != from {
-            if let Some(route) = route_to(chains, to) {
-                routes.push(route)?;
-            }
-        }
-    }
-    Ok(())
-}
-
-fn route_to(chains: &[Route], to: u8) -> Option<Route> {
-    let mut best = None;
-    for chain in chains.iter() {
-        if chain.to == to {
-            best = Some(merge(best, *chain));
-        }
-    }
-    best
-}
-
-// The lighter of two; of two as light the larger delay and the worse value, since traffic may take either.
-fn merge(best: Option<Route>, next: Route) -> Route {
-    let Some(kept) = best else {
-        return next;
-    };
-    if next.weight < kept.weight {
-        return next;
-    }
-    if kept.weight < next.weight {
-        return kept;
-    }
-    Route {
-        from: kept.from,
-        to: kept.to,
-        weight: kept.weight,
-        delay: kept.delay.max(next.delay),
-        value: kept.value.max(next.value),
+        Ok(())
     }
 }

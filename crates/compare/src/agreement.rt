@@ -1,23 +1,21 @@
 // The engine's replies, held to what enumeration found.
-use brute::{List, Rule, on_front, packed};
+use brute::{Ask, List, Outcome, Pair, Rule, on_front};
 use engine::{front, quote};
 use netmap::{Link, Map, Microseconds, RecordTable};
-use questions::Question;
-use segments::{Figures, Order, Spread, walk};
+use questions::{Denial, Question};
+use segments::{Figures, Labels, Order, Spread, Walk, walk};
 use std::alloc::{AllocError, Global};
-use tariff::{Cost, Ranking, Scarcity, Tariff};
+use tariff::{Cost, Scarcity, Tariff};
 
 // A tariff whose rule the enumeration has too.
 pub trait Known: Tariff {
-    fn rule() -> Rule;
+    const RULE: Rule;
 
     fn number(self) -> u32;
 }
 
 impl Known for Cost {
-    fn rule() -> Rule {
-        Rule::Cost
-    }
+    const RULE: Rule = Rule::Cost;
 
     fn number(self) -> u32 {
         self.weight
@@ -25,171 +23,172 @@ impl Known for Cost {
 }
 
 impl Known for Scarcity {
-    fn rule() -> Rule {
-        Rule::Scarcity
-    }
+    const RULE: Rule = Rule::Scarcity;
 
     fn number(self) -> u32 {
         self.figure
     }
 }
 
+// The most nodes of a map here.
+const NODES: usize = 5;
+
+// The most entries of a list.
+const ENTRIES: usize = 3;
+
+// The most grains of a bound.
+const GRAINS: usize = 1000;
+
 // What the engine works in.
 #[derive(Drop)]
 pub struct Space<V> {
-    pub dist: Vec<u32>,
-    pub spread: Vec<Spread<V>>,
-    pub table: Vec<Option<V>>,
-    pub list: Vec<u16>,
-    pub slots: Vec<Option<V>>,
+    dist: Vec<u32>,
+    spread: Vec<Spread<V>>,
+    table: Vec<Option<V>>,
+    list: Vec<u16>,
+    slots: Vec<Option<V>>,
 }
 
-// Room for 5 nodes, 3 entries and 1,000 grains.
-pub(crate) fn new_space<V: Known>(heap: Global) -> Result<Space<V>, AllocError> {
-    let mut space = Space {
-        dist: Vec::new(heap),
-        spread: Vec::new(heap),
-        table: Vec::new(heap),
-        list: Vec::new(heap),
-        slots: Vec::new(heap),
-    };
-    for _ in 0..25 {
-        space.dist.push(0)?;
-        space.spread.push(Spread {
+// The engine's calls, in a space.
+impl<V: Known> Space<V> {
+    pub(crate) fn new(heap: Global) -> Result<Space<V>, AllocError> {
+        let unmet = Spread {
             delay: Microseconds(0),
             value: V::neutral(),
-        })?;
+        };
+        Ok(Space {
+            dist: vec![in heap; 0; NODES * NODES]?,
+            spread: vec![in heap; unmet; NODES * NODES]?,
+            table: vec![in heap; None; (ENTRIES + 1) * NODES * (GRAINS + 1)]?,
+            list: vec![in heap; 0; ENTRIES]?,
+            slots: vec![in heap; None; GRAINS + 1]?,
+        })
     }
-    for _ in 0..20_020 {
-        space.table.push(None)?;
+
+    pub(crate) fn quote(
+        &mut self,
+        map: &RecordTable<'_>,
+        order: Order,
+    ) -> Result<Figures<V>, Denial> {
+        quote(
+            map,
+            order,
+            &mut self.dist,
+            &mut self.spread,
+            &mut self.table,
+            &mut self.list,
+        )
     }
-    for _ in 0..1001 {
-        space.slots.push(None)?;
+
+    fn front(&mut self, map: &RecordTable<'_>, order: Order) -> Result<usize, Denial> {
+        front(
+            map,
+            order,
+            &mut self.dist,
+            &mut self.spread,
+            &mut self.table,
+            &mut self.slots,
+        )
     }
-    for _ in 0..3 {
-        space.list.push(0)?;
+
+    fn walk(
+        &mut self,
+        map: &RecordTable<'_>,
+        source: u8,
+        grain: u32,
+        codes: &[u16],
+    ) -> Result<Walk<V>, Denial> {
+        walk(
+            map,
+            source,
+            Microseconds(grain),
+            codes,
+            &mut self.dist,
+            &mut self.spread,
+        )
     }
-    Ok(space)
 }
 
-// Puts the links into a map; false if it denies one.
-pub(crate) fn lay_out(map: &mut RecordTable<'_>, nodes: u8, places: &[Option<Link>]) -> bool {
-    if map.open(nodes as usize).is_err() {
-        return false;
-    }
+// Opens the map, and puts the links at their places.
+pub(crate) fn lay_out(
+    map: &mut RecordTable<'_>,
+    nodes: u8,
+    places: &[Option<Link>],
+) -> Result<(), Denial> {
+    map.open(usize::from(nodes))?;
     for (i, place) in places.iter().enumerate() {
         if let Some(link) = *place {
-            if map.put(i, link).is_err() {
-                return false;
-            }
+            map.put(i, link)?;
         }
     }
-    true
+    Ok(())
 }
 
-fn same_figures<V: Known>(figures: Figures<V>, list: List) -> bool {
-    figures.value.number() == list.value
-        && figures.grains.0 == list.grains
-        && figures.delay.0 == list.delay
-        && figures.labels.0 == list.entries
+pub(crate) fn order_of(ask: Ask) -> Order {
+    Order {
+        index: 0,
+        source: ask.source,
+        target: ask.target,
+        bound: Microseconds(ask.bound),
+        limit: Labels(ask.limit),
+        grain: Microseconds(ask.grain),
+    }
 }
 
-fn same_codes(codes: &[u16], list: List) -> bool {
-    let count = list.entries as usize;
-    count <= codes.len() && packed(&codes[0..count]) == list.codes
+// What a list that ends at a node comes to, as the enumeration gives it.
+fn outcome_of<V: Known>(end: u8, figures: Figures<V>) -> Outcome {
+    Outcome {
+        end,
+        value: figures.value.number(),
+        grains: figures.grains.0,
+        delay: figures.delay.0,
+    }
 }
 
 pub(crate) fn quote_agrees<V: Known>(
     map: &RecordTable<'_>,
-    order: Order,
+    ask: Ask,
     space: &mut Space<V>,
-    expected: Option<List>,
+    expected: Option<&List>,
 ) -> bool {
-    let reply = quote(
-        map,
-        order,
-        space.dist.as_mut_slice(),
-        space.spread.as_mut_slice(),
-        space.table.as_mut_slice(),
-        space.list.as_mut_slice(),
-    );
-    match (reply, expected) {
+    match (space.quote(map, order_of(ask)), expected) {
         (Ok(figures), Some(list)) => {
-            same_figures(figures, list) && same_codes(space.list.as_slice(), list)
+            let codes = space.list.get(..usize::from(figures.labels.0));
+            outcome_of(ask.target, figures) == list.outcome && codes == Some(&list.codes)
         }
-        (Err(denial), None) => matches!(denial.question, Question::AnyList),
+        (Err(denial), None) => denial.question == Question::AnyList,
         _ => false,
     }
-}
-
-fn same_value<V: Known>(slot: Option<V>, expected: Option<u32>) -> bool {
-    match (slot, expected) {
-        (Some(value), Some(number)) => value.number() == number,
-        (None, None) => true,
-        _ => false,
-    }
-}
-
-// How many of the slots up to the top hold a pair, if each holds what stands on the front there.
-fn count_front<V: Known>(slots: &[Option<V>], top: u32, pairs: &[(u32, u32)]) -> Option<usize> {
-    let mut held: usize = 0;
-    for d in 0..top.saturating_add(1) {
-        let expected = on_front(pairs, d);
-        let slot = slots.get(d as usize).copied()?;
-        if !same_value(slot, expected) {
-            return None;
-        }
-        if expected.is_some() {
-            held = held.saturating_add(1);
-        }
-    }
-    Some(held)
 }
 
 // The number of pairs on the front, if the engine agrees on all of them.
 pub(crate) fn agreed_pairs<V: Known>(
     map: &RecordTable<'_>,
-    order: Order,
+    ask: Ask,
     space: &mut Space<V>,
-    top: u32,
-    pairs: &[(u32, u32)],
+    pairs: &[Pair],
 ) -> Option<usize> {
-    let reply = front(
-        map,
-        order,
-        space.dist.as_mut_slice(),
-        space.spread.as_mut_slice(),
-        space.table.as_mut_slice(),
-        space.slots.as_mut_slice(),
-    );
-    let held = count_front(space.slots.as_slice(), top, pairs)?;
-    match reply {
-        Ok(count) if count == held => Some(held),
-        _ => None,
-    }
+    let held = space.front(map, order_of(ask)).ok()?;
+    let top = ask.bound.checked_div(ask.grain)?;
+    let slots = space.slots.get(..=top as usize)?;
+    let agree = (0..=top).zip(slots).all(|(grains, slot)| slot.map(V::number)
+        == on_front(pairs, grains));
+    (agree && slots.iter().flatten().count() == held).then_some(held)
 }
 
 pub(crate) fn walk_agrees<V: Known>(
     map: &RecordTable<'_>,
-    source: u8,
-    grain: u32,
+    ask: Ask,
     codes: &[u16],
     space: &mut Space<V>,
-    expected: Result<List, usize>,
+    expected: Result<Outcome, usize>,
 ) -> bool {
-    let reply = walk(
-        map,
-        source,
-        Microseconds(grain),
-        codes,
-        space.dist.as_mut_slice(),
-        space.spread.as_mut_slice(),
-    );
-    match (reply, expected) {
-        (Ok(walked), Ok(list)) => walked.end == list.end && same_figures(walked.figures, list),
-        (Err(denial), Err(i)) => {
-            matches!(denial.question, Question::EntryLegal) && denial.place == i
+    match (space.walk(map, ask.source, ask.grain, codes), expected) {
+        (Ok(walk), Ok(outcome)) => {
+            outcome_of(walk.end, walk.figures) == outcome
+                && usize::from(walk.figures.labels.0) == codes.len()
         }
+        (Err(denial), Err(i)) => { denial.question == Question::EntryLegal && denial.place == i }
         _ => false,
     }
 }

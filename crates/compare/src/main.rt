@@ -3,47 +3,30 @@
 
 mod agreement;
 mod cases;
+mod examples;
 mod random;
 mod rounds;
 
-use agreement::{Space, new_space};
+use agreement::Space;
+use examples::compare_examples;
 use random::Random;
-use rounds::{Counts, compare_examples, compare_round};
+use rounds::{Counts, compare_round};
 use tariff::{Cost, Scarcity};
 
 const ROUNDS: u32 = 2000;
 
 fn main(rt: HostRuntime) -> anyhow::Result<()> {
-    run(&rt)
-}
-
-fn run(rt: &HostRuntime) -> anyhow::Result<()> {
-    let mut costs: Space<Cost> = new_space(rt.alloc())?;
-    let mut scarcities: Space<Scarcity> = new_space(rt.alloc())?;
-    let examples = compare_examples(&mut costs);
-    println!(rt; "examples {examples} agreed")?;
+    let mut costs: Space<Cost> = Space::new(rt.alloc())?;
+    let mut scarcities: Space<Scarcity> = Space::new(rt.alloc())?;
+    let examples = compare_examples(rt.alloc(), &mut costs)?;
+    let agreed = examples.iter().filter(|agrees| **agrees).count();
+    println!(rt; "examples {agreed} agreed")?;
     let mut random = Random::new();
-    let mut counts = Counts::new();
+    let mut counts = Counts::default();
     for _ in 0..ROUNDS {
-        compare_round(rt, &mut random, &mut costs, &mut counts)?;
-        compare_round(rt, &mut random, &mut scarcities, &mut counts)?;
+        compare_round(&rt, &mut random, &mut costs, &mut counts)?;
+        compare_round(&rt, &mut random, &mut scarcities, &mut counts)?;
     }
-    show_counts(rt, counts)
-}
-
-fn show_counts(rt: &HostRuntime, counts: Counts) -> anyhow::Result<()> {
-    let Counts {
-        round: _,
-        quotes,
-        granted,
-        refused,
-        fronts,
-        pairs,
-        walks,
-        legal,
-    } = counts;
-    println!(rt; "quotes {quotes} agreed, {granted} granted, {refused} refused by 20")?;
-    println!(rt; "fronts {fronts} agreed, {pairs} pairs")?;
-    println!(rt; "walks {walks} agreed, {legal} legal")?;
+    println!(rt; "{counts}")?;
     Ok(())
 }

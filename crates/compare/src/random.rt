@@ -1,4 +1,6 @@
 // Numbers that look random and are the same in every run.
+ghost use Rattle.std.specs.Prelude.{◌<◌, ◌≤◌};
+
 #[derive(Drop)]
 pub struct Random {
     state: u64,
@@ -12,21 +14,16 @@ impl Random {
     }
 
     // A number below n, or 0 if n is.
-    pub(crate) fn below(&mut self, n: u32) -> u32 {
+    pub(crate) fn below(&mut self, n: u32) -> u32
+        ensures below { 0 < n → result < n }
+        ensures within { result ≤ n }
+    {
         let mut x = self.state;
         x ^= x.wrapping_shl(13);
         x ^= x.wrapping_shr(7);
         x ^= x.wrapping_shl(17);
         self.state = x;
         let high = (x.wrapping_shr(20) & 0xffff_ffff) as u32;
-        if n == 0 { 0 } else { high % n }
-    }
-
-    pub(crate) fn byte_below(&mut self, n: u32) -> u8 {
-        (self.below(n) & 0xff) as u8
-    }
-
-    pub(crate) fn short_below(&mut self, n: u32) -> u16 {
-        (self.below(n) & 0xffff) as u16
+        high.checked_rem(n).unwrap_or(0)
     }
 }

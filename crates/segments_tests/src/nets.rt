@@ -62,53 +62,65 @@ pub(crate) fn fill(map: &mut RecordTable<'_>, nodes: usize, net: &[Link]) -> Res
     Ok(())
 }
 
-// Walks a list over a map of six places.
-fn walked<V: Tariff>(
+// The end of a list, its value, grains and microseconds, and the count of its entries.
+pub(crate) type Reply = Result<(u8, u32, u32, u32, u16), Denial>;
+
+// Walks a list over a map of six places, under a tariff whose values are numbers.
+// The slice is the caller's, since an array of a type parameter may be too large.
+fn walked<V: Tariff, F: Fn(V) -> u32>(
     nodes: usize,
     net: &[Link],
     source: u8,
     grain: u32,
     list: &[u16],
     spread: &mut [Spread<V>],
-) -> Result<Walk<V>, Denial> {
+    number: F,
+) -> Reply
+    requires { F.IsAlwaysCallable number }
+{
     let mut records = [None; 6];
     let mut map = RecordTable::over(&mut records);
     fill(&mut map, nodes, net)?;
     let mut dist = [0; 16];
-    walk(&map, source, Microseconds(grain), list, &mut dist, spread)
-}
-
-// The end of a list, its value, grains and microseconds, and the count of its entries.
-pub(crate) type Reply = Result<(u8, u32, u32, u32, u16), Denial>;
-
-pub(crate) fn cost(nodes: usize, net: &[Link], source: u8, grain: u32, list: &[u16]) -> Reply {
-    let mut spread = [Spread {
-        delay: Microseconds(0),
-        value: Cost { weight: 0 },
-    }; 16];
-    let walk = walked(nodes, net, source, grain, list, &mut spread)?;
-    let figures = walk.figures;
+    let Walk { end, figures } = walk(&map, source, Microseconds(grain), list, &mut dist, spread)?;
     Ok((
-        walk.end,
-        figures.value.weight,
+        end,
+        number(figures.value),
         figures.grains.0,
         figures.delay.0,
         figures.labels.0,
     ))
+}
+
+fn without_delay<V>(value: V) -> Spread<V> {
+    Spread {
+        delay: Microseconds(0),
+        value,
+    }
+}
+
+pub(crate) fn cost(nodes: usize, net: &[Link], source: u8, grain: u32, list: &[u16]) -> Reply {
+    let mut spread = [without_delay(Cost { weight: 0 }); 16];
+    walked(
+        nodes,
+        net,
+        source,
+        grain,
+        list,
+        &mut spread,
+        |cost| cost.weight,
+    )
 }
 
 pub(crate) fn scarcity(nodes: usize, net: &[Link], source: u8, grain: u32, list: &[u16]) -> Reply {
-    let mut spread = [Spread {
-        delay: Microseconds(0),
-        value: Scarcity { figure: 0 },
-    }; 16];
-    let walk = walked(nodes, net, source, grain, list, &mut spread)?;
-    let figures = walk.figures;
-    Ok((
-        walk.end,
-        figures.value.figure,
-        figures.grains.0,
-        figures.delay.0,
-        figures.labels.0,
-    ))
+    let mut spread = [without_delay(Scarcity { figure: 0 }); 16];
+    walked(
+        nodes,
+        net,
+        source,
+        grain,
+        list,
+        &mut spread,
+        |scarcity| scarcity.figure,
+    )
 }

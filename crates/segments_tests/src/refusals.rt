@@ -7,7 +7,7 @@ use std::process::Abort;
 use std::test::Fail;
 use tariff::Scarcity;
 
-// A call of walk on net A, whose working slices want 16 slots each.
+// A call of walk on net A, with so many slots in the working slices and so many entries in the list.
 #[derive(Clone, Copy)]
 struct Call {
     source: u8,
@@ -17,51 +17,34 @@ struct Call {
     count: usize,
 }
 
-fn call_of(source: u8, grain: u32, dist: usize, spread: usize, count: usize) -> Call {
-    Call {
-        source,
-        grain,
-        dist,
-        spread,
-        count,
-    }
-}
+// Nothing is wrong with it.
+const GRANTED: Call = Call {
+    source: 0,
+    grain: 1000,
+    dist: 16,
+    spread: 16,
+    count: 1,
+};
 
-// Does each slot hold what was there before the walk?
-fn untouched(dist: &[u32], spread: &[Spread<Scarcity>]) -> bool {
-    for slot in dist.iter() {
-        if *slot != 7 {
-            return false;
-        }
-    }
-    for slot in spread.iter() {
-        if slot.delay.0 != 8 || slot.value.figure != 9 {
-            return false;
-        }
-    }
-    true
-}
-
-// Makes the call with the first slots of the slices, and looks at all of them.
-fn check_call(
-    rt: &impl Abort,
-    question: Question,
-    call: Call,
-    list: &[u16],
-    dist: &mut [u32],
-    spread: &mut [Spread<Scarcity>],
-) -> Result<(), Fail> {
-    assert!(rt; call.count <= list.len() && call.dist <= dist.len() && call.spread <= spread.len());
+// Makes the call, which is to be denied and to leave the slices as they were.
+fn check_denied(rt: &impl Abort, question: Question, call: Call) -> Result<(), Fail> {
     let mut records = [None; 5];
     let mut map = RecordTable::over(&mut records);
     fill(&mut map, 4, &net_a())?;
+    let list = [1; 11];
+    let mut dist = [7; 16];
+    let mut spread = [Spread {
+        delay: Microseconds(8),
+        value: Scarcity { figure: 9 },
+    }; 16];
+    assert!(rt; call.count <= 11 && call.dist <= 16 && call.spread <= 16);
     let reply = walk(
         &map,
         call.source,
         Microseconds(call.grain),
-        &list[0..call.count],
-        &mut dist[0..call.dist],
-        &mut spread[0..call.spread],
+        &list[..call.count],
+        &mut dist[..call.dist],
+        &mut spread[..call.spread],
     );
     let denial = Denial {
         question,
@@ -69,36 +52,59 @@ fn check_call(
         place: 0,
     };
     assert_eq!(rt; reply.err(), Some(denial));
-    assert!(rt; untouched(dist, spread));
+    assert_eq!(rt; dist, [7; 16]);
+    assert!(rt;
+        spread
+            .iter()
+            .all(|slot| (slot.delay.0, slot.value.figure) == (8, 9))
+    );
     Ok(())
-}
-
-fn check_denied(rt: &impl Abort, question: Question, call: Call) -> Result<(), Fail> {
-    let mut dist = [7; 16];
-    let mut spread = [Spread {
-        delay: Microseconds(8),
-        value: Scarcity { figure: 9 },
-    }; 16];
-    check_call(rt, question, call, &[1; 11], &mut dist, &mut spread)
 }
 
 #[test]
 fn a_denied_walk_leaves_the_slices(rt: HostRuntime) -> Result<(), Fail> {
-    check_denied(&rt, Question::OrderNodes, call_of(4, 1000, 16, 16, 1))?;
-    check_denied(&rt, Question::OrderNodes, call_of(255, 1000, 16, 16, 1))?;
-    check_denied(&rt, Question::GrainRange, call_of(0, 0, 16, 16, 1))?;
-    check_denied(&rt, Question::GrainRange, call_of(0, 10_001, 16, 16, 1))?;
-    check_denied(&rt, Question::WorkingSpace, call_of(0, 1000, 15, 16, 1))?;
-    check_denied(&rt, Question::WorkingSpace, call_of(0, 1000, 16, 15, 1))?;
-    check_denied(&rt, Question::WalkLength, call_of(0, 1000, 16, 16, 11))
+    let call = GRANTED;
+    check_denied(&rt, Question::OrderNodes, Call { source: 4, ..call })?;
+    check_denied(
+        &rt,
+        Question::OrderNodes,
+        Call {
+            source: 255,
+            ..call
+        },
+    )?;
+    check_denied(&rt, Question::GrainRange, Call { grain: 0, ..call })?;
+    check_denied(
+        &rt,
+        Question::GrainRange,
+        Call {
+            grain: 10_001,
+            ..call
+        },
+    )?;
+    check_denied(&rt, Question::WorkingSpace, Call { dist: 15, ..call })?;
+    check_denied(&rt, Question::WorkingSpace, Call { spread: 15, ..call })?;
+    check_denied(&rt, Question::WalkLength, Call { count: 11, ..call })
 }
 
 #[test]
 fn the_first_question_answered_no_denies(rt: HostRuntime) -> Result<(), Fail> {
-    check_denied(&rt, Question::OrderNodes, call_of(4, 0, 15, 15, 11))?;
-    check_denied(&rt, Question::GrainRange, call_of(3, 0, 15, 15, 11))?;
-    check_denied(&rt, Question::WorkingSpace, call_of(3, 1000, 15, 15, 11))?;
-    check_denied(&rt, Question::WalkLength, call_of(3, 1000, 16, 16, 11))
+    let length = Call {
+        source: 3,
+        count: 11,
+        ..GRANTED
+    };
+    let space = Call {
+        dist: 15,
+        spread: 15,
+        ..length
+    };
+    let grain = Call { grain: 0, ..space };
+    let nodes = Call { source: 4, ..grain };
+    check_denied(&rt, Question::OrderNodes, nodes)?;
+    check_denied(&rt, Question::GrainRange, grain)?;
+    check_denied(&rt, Question::WorkingSpace, space)?;
+    check_denied(&rt, Question::WalkLength, length)
 }
 
 fn illegal(index: usize) -> Reply {
@@ -109,43 +115,33 @@ fn illegal(index: usize) -> Reply {
     })
 }
 
-// A code at a node of net A, on a map whose places 0 to 4 are filled and whose place 5 is empty.
-#[derive(Clone, Copy)]
-struct Misplaced {
-    at: u8,
-    code: u16,
-}
-
+// Codes at nodes of net A, on a map whose places 0 to 4 are filled and whose place 5 is empty.
 #[test]
 fn a_code_is_illegal_where_it_names_nothing(rt: HostRuntime) {
-    let cases = [
+    for (at, code) in [
         // the present node
-        Misplaced { at: 0, code: 0 },
-        Misplaced { at: 3, code: 3 },
+        (0, 0),
+        (3, 3),
         // no path
-        Misplaced { at: 3, code: 0 },
-        Misplaced { at: 1, code: 2 },
+        (3, 0),
+        (1, 2),
         // no such node
-        Misplaced { at: 0, code: 4 },
-        Misplaced { at: 0, code: 63 },
+        (0, 4),
+        (0, 63),
         // an empty place, and no such place
-        Misplaced { at: 0, code: 261 },
-        Misplaced { at: 0, code: 262 },
-        Misplaced { at: 0, code: 511 },
+        (0, 261),
+        (0, 262),
+        (0, 511),
         // a link that begins elsewhere
-        Misplaced { at: 0, code: 257 },
-        Misplaced { at: 3, code: 256 },
+        (0, 257),
+        (3, 256),
         // no segment has such a code
-        Misplaced { at: 0, code: 64 },
-        Misplaced { at: 0, code: 255 },
-        Misplaced { at: 0, code: 512 },
-        Misplaced {
-            at: 0,
-            code: 65_535,
-        },
-    ];
-    for case in cases.iter() {
-        assert_eq!(rt; cost(4, &net_a(), case.at, 1000, &[case.code]), illegal(0));
+        (0, 64),
+        (0, 255),
+        (0, 512),
+        (0, 65_535),
+    ] {
+        assert_eq!(rt; cost(4, &net_a(), at, 1000, &[code]), illegal(0));
     }
 }
 

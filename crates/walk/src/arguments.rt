@@ -16,30 +16,29 @@ pub(crate) struct Request {
 // no node is 255, no grain is so long, and no segment has the code 65,535.
 pub(crate) fn read_words(heap: Global, mut words: Args) -> anyhow::Result<Request> {
     let _program = words.next();
-    let source = number(heap, "SOURCE", words.next())?;
-    let grain = number(heap, "GRAIN", words.next())?;
-    let mut list = Vec::new(heap);
-    for word in words {
-        let code = number(heap, "CODE", Some(word))?;
-        list.push(code.min(u16::MAX as u64) as u16)?;
-    }
+    let source = number("SOURCE", words.next(), u8::MAX)?;
+    let grain = number("GRAIN", words.next(), u32::MAX)?;
+    let list = words
+        .map(|word| number("CODE", Some(word), u16::MAX))
+        .try_collect(heap)?;
     Ok(Request {
-        source: source.min(u8::MAX as u64) as u8,
-        grain: Microseconds(grain.min(u32::MAX as u64) as u32),
+        source,
+        grain: Microseconds(grain),
         list,
     })
 }
 
-fn number(heap: Global, name: &str, word: Option<String>) -> anyhow::Result<u64> {
-    let Some(word) = word else {
-        return Err(anyhow!(format!(in heap;
-            "{name} is missing; usage: walk SOURCE GRAIN [CODE...]"
-        )?));
-    };
-    match word.as_str().parse::<u64>() {
-        Ok(number) => Ok(number),
-        Err(_) => Err(anyhow!(format!(in heap;
-            "{name} must be a whole number below 2^64, not {word:?}"
-        )?)),
-    }
+// The number that a word writes, or the largest of its type.
+fn number<T>(name: &str, word: Option<String>, largest: T) -> anyhow::Result<T>
+where
+    T: TryFrom<u64> + Drop,
+    T::Error: Drop,
+{
+    let word = word.ok_or_else(|| {
+        anyhow!("{name} is missing; usage: walk SOURCE GRAIN [CODE...]")
+    })?;
+    let number = word.as_str().parse::<u64>().map_err(|_| {
+        anyhow!("{name} must be a whole number below 2^64, not {word:?}")
+    })?;
+    Ok(T::try_from(number).unwrap_or(largest))
 }

@@ -8,34 +8,24 @@ mod reporting;
 mod tests;
 
 use arguments::read_words;
+use console::{LONGEST_MAP, conclude, read_input};
 use netmap::Microseconds;
 use reporting::report;
 use segments::Spread;
 use std::env;
-use std::io::Read;
 use std::process::ExitCode;
 use tariff::Cost;
-
-// One more than the longest image has, so that an input that is too long is seen to be.
-const MOST_BYTES: u64 = 3077;
 
 // A slot for each pair of the 64 nodes that a map may have.
 const SLOTS: usize = 4096;
 
 fn main(rt: HostRuntime) -> ExitCode {
-    match run(&rt) {
-        Ok(()) => ExitCode::SUCCESS,
-        Err(error) => {
-            let _ = eprintln!(rt; "walk: {error}");
-            ExitCode::FAILURE
-        }
-    }
+    conclude(&rt, "walk", run(&rt))
 }
 
 fn run(rt: &HostRuntime) -> anyhow::Result<()> {
     let request = read_words(rt.alloc(), env::args(rt)?)?;
-    let mut bytes = Vec::new(rt.alloc());
-    rt.stdin().take(MOST_BYTES).read_to_end(&mut bytes)?;
+    let mut bytes = read_input(rt.alloc(), rt.stdin(), LONGEST_MAP)?;
     let mut dist = [0; SLOTS];
     let mut spread = [Spread {
         delay: Microseconds(0),
@@ -43,10 +33,10 @@ fn run(rt: &HostRuntime) -> anyhow::Result<()> {
     }; SLOTS];
     let text = report(
         rt.alloc(),
-        bytes.as_mut_slice(),
+        &mut bytes,
         request.source,
         request.grain,
-        request.list.as_slice(),
+        &request.list,
         &mut dist,
         &mut spread,
     )?;

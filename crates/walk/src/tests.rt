@@ -67,10 +67,10 @@ fn asks(
     list: &[u16],
 ) -> Result<(), Fail> {
     let heap = rt.alloc();
-    let mut all = Vec::new(heap);
-    for word in words.split(' ') {
-        all.push(String::from_str(heap, word)?)?;
-    }
+    let all: Vec<String> = words
+        .split(' ')
+        .map(|word| String::from_str(heap, word))
+        .try_collect(heap)?;
     let got = read_words(heap, all.into_iter())?;
     assert_eq!(rt; (got.source, got.grain.0), (source, grain));
     assert_eq!(rt; got.list.as_slice(), list);
