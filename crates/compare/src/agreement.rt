@@ -42,8 +42,8 @@ const GRAINS: usize = 1000;
 // What the engine works in.
 #[derive(Drop)]
 pub struct Space<V> {
-    dist: Vec<u32>,
-    spread: Vec<Spread<V>>,
+    dist: Vec<Option<u32>>,
+    spread: Vec<Option<Spread<V>>>,
     table: Vec<Option<V>>,
     list: Vec<u16>,
     slots: Vec<Option<V>>,
@@ -52,13 +52,9 @@ pub struct Space<V> {
 // The engine's calls, in a space.
 impl<V: Known> Space<V> {
     pub(crate) fn new(heap: Global) -> Result<Space<V>, AllocError> {
-        let unmet = Spread {
-            delay: Microseconds(0),
-            value: V::neutral(),
-        };
         Ok(Space {
-            dist: vec![in heap; 0; NODES * NODES]?,
-            spread: vec![in heap; unmet; NODES * NODES]?,
+            dist: vec![in heap; None; NODES * NODES]?,
+            spread: vec![in heap; None; NODES * NODES]?,
             table: vec![in heap; None; (ENTRIES + 1) * NODES * (GRAINS + 1)]?,
             list: vec![in heap; 0; ENTRIES]?,
             slots: vec![in heap; None; GRAINS + 1]?,

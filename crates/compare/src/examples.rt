@@ -8,13 +8,7 @@ use std::alloc::Global;
 use tariff::Cost;
 
 fn link(tail: u8, head: u8, weight: u16, delay: u32, figure: u32) -> Option<Link> {
-    Some(Link {
-        tail,
-        head,
-        weight,
-        delay: Microseconds(delay),
-        figure,
-    })
+    Some(Link::new(tail, head, weight, Microseconds(delay), figure))
 }
 
 // An order from 0 to 3 for a list of at most two entries, in grains of three microseconds.

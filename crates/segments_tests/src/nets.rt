@@ -5,13 +5,7 @@ use segments::{Spread, Walk, walk};
 use tariff::{Cost, Scarcity, Tariff};
 
 fn link(tail: u8, head: u8, weight: u16, delay: u32, figure: u32) -> Link {
-    Link {
-        tail,
-        head,
-        weight,
-        delay: Microseconds(delay),
-        figure,
-    }
+    Link::new(tail, head, weight, Microseconds(delay), figure)
 }
 
 // Four nodes; from 0 to 3 the least weight has the largest delay.
@@ -73,7 +67,7 @@ fn walked<V: Tariff, F: Fn(V) -> u32>(
     source: u8,
     grain: u32,
     list: &[u16],
-    spread: &mut [Spread<V>],
+    spread: &mut [Option<Spread<V>>],
     number: F,
 ) -> Reply
     requires { F.IsAlwaysCallable number }
@@ -81,7 +75,7 @@ fn walked<V: Tariff, F: Fn(V) -> u32>(
     let mut records = [None; 6];
     let mut map = RecordTable::over(&mut records);
     fill(&mut map, nodes, net)?;
-    let mut dist = [0; 16];
+    let mut dist = [None; 16];
     let Walk { end, figures } = walk(&map, source, Microseconds(grain), list, &mut dist, spread)?;
     Ok((
         end,
@@ -92,15 +86,8 @@ fn walked<V: Tariff, F: Fn(V) -> u32>(
     ))
 }
 
-fn without_delay<V>(value: V) -> Spread<V> {
-    Spread {
-        delay: Microseconds(0),
-        value,
-    }
-}
-
 pub(crate) fn cost(nodes: usize, net: &[Link], source: u8, grain: u32, list: &[u16]) -> Reply {
-    let mut spread = [without_delay(Cost { weight: 0 }); 16];
+    let mut spread = [None; 16];
     walked(
         nodes,
         net,
@@ -108,12 +95,12 @@ pub(crate) fn cost(nodes: usize, net: &[Link], source: u8, grain: u32, list: &[u
         grain,
         list,
         &mut spread,
-        |cost| cost.weight,
+        |cost: Cost| cost.weight,
     )
 }
 
 pub(crate) fn scarcity(nodes: usize, net: &[Link], source: u8, grain: u32, list: &[u16]) -> Reply {
-    let mut spread = [without_delay(Scarcity { figure: 0 }); 16];
+    let mut spread = [None; 16];
     walked(
         nodes,
         net,
@@ -121,6 +108,6 @@ pub(crate) fn scarcity(nodes: usize, net: &[Link], source: u8, grain: u32, list:
         grain,
         list,
         &mut spread,
-        |scarcity| scarcity.figure,
+        |scarcity: Scarcity| scarcity.figure,
     )
 }

@@ -32,11 +32,11 @@ fn check_denied(rt: &impl Abort, question: Question, call: Call) -> Result<(), F
     let mut map = RecordTable::over(&mut records);
     fill(&mut map, 4, &net_a())?;
     let list = [1; 11];
-    let mut dist = [7; 16];
-    let mut spread = [Spread {
+    let mut dist = [Some(7); 16];
+    let mut spread = [Some(Spread {
         delay: Microseconds(8),
         value: Scarcity { figure: 9 },
-    }; 16];
+    }); 16];
     assert!(rt; call.count <= 11 && call.dist <= 16 && call.spread <= 16);
     let reply = walk(
         &map,
@@ -46,17 +46,12 @@ fn check_denied(rt: &impl Abort, question: Question, call: Call) -> Result<(), F
         &mut dist[..call.dist],
         &mut spread[..call.spread],
     );
-    let denial = Denial {
-        question,
-        layer: Layer::Order,
-        place: 0,
-    };
+    let denial = Denial::new(question, Layer::Order, 0);
     assert_eq!(rt; reply.err(), Some(denial));
-    assert_eq!(rt; dist, [7; 16]);
+    assert_eq!(rt; dist, [Some(7); 16]);
     assert!(rt;
-        spread
-            .iter()
-            .all(|slot| (slot.delay.0, slot.value.figure) == (8, 9))
+        spread.iter().all(|slot| slot.is_some_and(|spread| (spread.delay.0, spread.value.figure)
+            == (8, 9)))
     );
     Ok(())
 }
@@ -108,11 +103,7 @@ fn the_first_question_answered_no_denies(rt: HostRuntime) -> Result<(), Fail> {
 }
 
 fn illegal(index: usize) -> Reply {
-    Err(Denial {
-        question: Question::EntryLegal,
-        layer: Layer::List,
-        place: index,
-    })
+    Err(Denial::new(Question::EntryLegal, Layer::List, index))
 }
 
 // Codes at nodes of net A, on a map whose places 0 to 4 are filled and whose place 5 is empty.

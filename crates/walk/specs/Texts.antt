@@ -21,7 +21,7 @@ abbrev pub reply_line : Result (Walk Cost) Denial → List ℕ
 reply_line (Ok w) = walk_line w
 reply_line (Err d) = line (refusal d)
 
-module _ (source grain : ℕ) (cs : List ℕ) (dist dist_after : List ℕ) (spread spread_after : List (Spread Cost)) where
+module _ (source grain : ℕ) (cs : List ℕ) (dist dist_after : List (Option ℕ)) (spread spread_after : List (Option (Spread Cost))) where
   -- the text of what a walk over the network replies
   pub record WalkReports (net : Net) (text : List ℕ) : Type 0 where
     pub reply : Result (Walk Cost) Denial

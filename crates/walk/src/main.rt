@@ -9,12 +9,9 @@ mod tests;
 
 use arguments::read_words;
 use console::{LONGEST_MAP, conclude, read_input};
-use netmap::Microseconds;
 use reporting::report;
-use segments::Spread;
 use std::env;
 use std::process::ExitCode;
-use tariff::Cost;
 
 // A slot for each pair of the 64 nodes that a map may have.
 const SLOTS: usize = 4096;
@@ -26,11 +23,8 @@ fn main(rt: HostRuntime) -> ExitCode {
 fn run(rt: &HostRuntime) -> anyhow::Result<()> {
     let request = read_words(rt.alloc(), env::args(rt)?)?;
     let mut bytes = read_input(rt.alloc(), rt.stdin(), LONGEST_MAP)?;
-    let mut dist = [0; SLOTS];
-    let mut spread = [Spread {
-        delay: Microseconds(0),
-        value: Cost { weight: 0 },
-    }; SLOTS];
+    let mut dist = [None; SLOTS];
+    let mut spread = [None; SLOTS];
     let text = report(
         rt.alloc(),
         &mut bytes,

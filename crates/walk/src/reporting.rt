@@ -14,8 +14,8 @@ fn report_walk<M: Map>(
     source: u8,
     grain: Microseconds,
     list: &[u16],
-    dist: &mut [u32],
-    spread: &mut [Spread<Cost>],
+    dist: &mut [Option<u32>],
+    spread: &mut [Option<Spread<Cost>>],
 ) -> Result<String, AllocError>
     ensures { IfOk result (λ text. WalkReports source grain.0 list.now dist.old dist.new spread.old spread.new (M.meaning map.now) (string_bytes text)) }
 {
@@ -39,8 +39,8 @@ pub(crate) fn report(
     source: u8,
     grain: Microseconds,
     list: &[u16],
-    dist: &mut [u32],
-    spread: &mut [Spread<Cost>],
+    dist: &mut [Option<u32>],
+    spread: &mut [Option<Spread<Cost>>],
 ) -> Result<String, AllocError>
     ensures { IfOk result (λ text. Reports source grain.0 list.now dist.old dist.new spread.old spread.new bytes.old (string_bytes text)) }
 {

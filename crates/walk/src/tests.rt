@@ -2,10 +2,8 @@
 use crate::arguments::read_words;
 use crate::reporting::report;
 use netmap::Microseconds;
-use segments::Spread;
 use std::process::Abort;
 use std::test::Fail;
-use tariff::Cost;
 
 // The map that the program's own run reads, with one byte of choice: the first of the delay at place 2.
 fn image(byte: u8) -> [u8; 64] {
@@ -23,11 +21,8 @@ fn reported(
     list: &[u16],
     text: &str,
 ) -> Result<(), Fail> {
-    let mut dist = [0; 16];
-    let mut spread = [Spread {
-        delay: Microseconds(0),
-        value: Cost { weight: 0 },
-    }; 16];
+    let mut dist = [None; 16];
+    let mut spread = [None; 16];
     let got = report(
         rt.alloc(),
         &mut bytes,
