@@ -26,8 +26,5 @@ tail_node net sound u v (l ∷ ls) other p = subst (λ n. n < net.nodes) p.1 (so
 pub link_sound : (net : Net) → Sound net → (n : ℕ) → n ≡ net.nodes → (p : ℕ) (l : Link) → link_at net p ≡ Some l → SoundLink n l
 link_sound net sound n same p l at = subst (λ m. SoundLink m l) (sym same) (sound.each p l at)
 
-pub held_sound : (net : Net) → Sound net → (n : ℕ) → n ≡ net.nodes → (p : ℕ) (l : Link) → Some l ≡ link_at net p → SoundLink n l
-held_sound net sound n same p l e = link_sound net sound n same p l (sym e)
-
 pub few_nodes : (net : Net) → Sound net → (n : ℕ) → n ≡ net.nodes → n ≤ 64
 few_nodes net sound n same = subst (λ m. m ≤ 64) (sym same) sound.nodes_high

@@ -1,12 +1,11 @@
 -- From round to round the table holds the least over one link more, until no round changes it.
-use Rattle.std.proofs.Common.{◌≡◌, ℕ, ◌+◌, ◌-◌, ◌*◌, ◌<◌, ◌≤◌, cond, eqb, List, [], ◌∷◌, length, Some, None, Option, sym, refl, subst, inl, ⊎_elim, arith}
+use Rattle.std.proofs.Common.{◌≡◌, ℕ, ◌+◌, ◌-◌, ◌*◌, ◌<◌, ◌≤◌, List, length, Some, None, Option, sym, refl, subst, inl, arith}
 use lib.Arith.{digits_lt}
-use Rattle.std.proofs.lemmas.Bool.{cases_eq, eq-eqb, ne_eqb}
 use Rattle.netmap.specs.declared.link.Link.{Link}
 use Rattle.netmap.specs.Net.{Net, Sound}
 use Rattle.segments.specs.Distances.{LeastOf, Far, cell, table_of, Exact, Known, AllKnown, Same}
 use Rattle.segments.specs.Paths.{IsPath, total_weight, IsBest}
-use Rattle.segments.specs.Relaxations.{Near, Tried, Found, Round, Started, Enough}
+use Rattle.segments.specs.Relaxations.{Near, Tried, Found, Round, Enough}
 use Rattle.segments.proofs.BestPathsShort.{best_short, path_small}
 use Rattle.segments.proofs.FirstBestPath.{first_best}
 use Rattle.segments.proofs.LeastNumbers.{least_once, least_known}
@@ -18,23 +17,6 @@ pub found_same : (net : Net) (k n : ℕ) (xs ys : List (Option ℕ)) → Same (n
 found_same net k n xs ys same f u v nu nv = subst (LeastOf (Near net k u v)) (same (u * n + v) (digits_lt nu nv)) (f u v nu nv)
 
 module _ (net : Net) (sound : Sound net) where
-  -- before the first round
-  pub start_found : (n : ℕ) (xs : List (Option ℕ)) → Started n xs → Found net 0 n xs
-  start_found n xs f u v nu nv = subst (LeastOf (Near net 0 u v)) (sym (f u v nu nv)) (first u v)
-    where
-      only : (u v w : ℕ) → Near net 0 u v w → (u ≡ v) × (w ≡ 0)
-      only u v w r = go r.links r.path r.short r.weight
-        where
-          go : (ls : List Link) → IsPath net u ls v → length ls ≤ 0 → total_weight ls ≡ w → (u ≡ v) × (w ≡ 0)
-          go [] p s e = (p, sym e)
-          go (l ∷ ls) p s e = absurd (omega arith)
-
-      first : (u v : ℕ) → LeastOf (Near net 0 u v) (cond (eqb u v) (Some 0) None)
-      first u v = ⊎_elim
-          (λ (e : u ≡ v). subst (λ b. LeastOf (Near net 0 u v) (cond b (Some 0) None)) (sym (eq-eqb u v e)) (record { links = []; path = e; short = omega arith; weight = refl }, λ y r. omega arith))
-          (λ (ne : u ≡ v → ⊥). subst (λ b. LeastOf (Near net 0 u v) (cond b (Some 0) None)) (sym (ne_eqb u v ne)) (λ y r. ne (only u v y r).0))
-          (cases_eq u v)
-
   module _ (n : ℕ) (same : n ≡ net.nodes) where
     node : (u : ℕ) → u < net.nodes → u < n
     node u h = omega (arith, same)

@@ -1,5 +1,5 @@
 -- A walk that no question denies has its source, grain, slices and list in range; one that is denied replies so.
-use Rattle.std.proofs.Common.{◌≡◌, ℕ, ◌*◌, ◌<◌, ◌≤◌, leb, List, length, Some, None, Option, Err, Result, sym, subst}
+use Rattle.std.proofs.Common.{◌≡◌, ℕ, ◌*◌, ◌<◌, ◌≤◌, leb, List, length, None, Option, Result, sym, subst}
 use Rattle.std.proofs.lemmas.Bool.{ltb-true, leb-true, and_parts}
 use Rattle.questions.specs.declared.denial.Denial.{Denial}
 use Rattle.netmap.specs.Net.{Net}
@@ -32,14 +32,8 @@ admitted n source grain dist spread count e =
       short = leb-true count 10 y.1.1.1.0;
     }
 
-module _ {V : Type 0} (net : Net) (alg : Algebra V) (source grain : ℕ) (cs : List ℕ) (dist dist_after : List (Option ℕ)) (spread spread_after : List (Option (Spread V))) (n : ℕ) (nodes : n ≡ net.nodes) (r : Result (Walk V) Denial) where
-  told_by : (d : Option Denial) → walk_denial n source grain (length dist) (length spread) (length cs) ≡ d → WalkBy net alg source grain cs d dist dist_after spread spread_after r → WalkCall net alg source grain cs dist dist_after spread spread_after r
-  told_by d e w =
-      subst (λ k. WalkBy net alg source grain cs (walk_denial k source grain (length dist) (length spread) (length cs)) dist dist_after spread spread_after r) nodes
-      (subst (λ o. WalkBy net alg source grain cs o dist dist_after spread spread_after r) (sym e) w)
-
-  pub walk_denied : (x : Denial) → walk_denial n source grain (length dist) (length spread) (length cs) ≡ Some x → r ≡ Err x → dist_after ≡ dist → spread_after ≡ spread → WalkCall net alg source grain cs dist dist_after spread spread_after r
-  walk_denied x e q a b = told_by (Some x) e (q, a, b)
-
-  pub walk_granted : walk_denial n source grain (length dist) (length spread) (length cs) ≡ None → WalkReply net alg source grain cs r → WalkCall net alg source grain cs dist dist_after spread spread_after r
-  walk_granted e w = told_by None e w
+pub walk_granted : {V : Type 0} (net : Net) (alg : Algebra V) (source grain : ℕ) (cs : List ℕ) (dist dist_after : List (Option ℕ)) (spread spread_after : List (Option (Spread V))) (n : ℕ) → n ≡ net.nodes → (r : Result (Walk V) Denial)
+    → walk_denial n source grain (length dist) (length spread) (length cs) ≡ None → WalkReply net alg source grain cs r → WalkCall net alg source grain cs dist dist_after spread spread_after r
+walk_granted net alg source grain cs dist dist_after spread spread_after n nodes r e w =
+    subst (λ k. WalkBy net alg source grain cs (walk_denial k source grain (length dist) (length spread) (length cs)) dist dist_after spread spread_after r) nodes
+    (subst (λ o. WalkBy net alg source grain cs o dist dist_after spread spread_after r) (sym e) w)

@@ -1,15 +1,9 @@
 use Rattle.std.proofs.Common.{◌≡◌, ◌+◌, ◌*◌, ◌<◌, ◌≤◌, sym, refl, ◌∙◌, subst, ⊎_elim, arith}
 use Rattle.std.proofs.lemmas.Bool.{cases_lt}
 use Rattle.segments.specs.Distances.{Exact, delays}
-use Rattle.segments.proofs.RoundsEnd.{found_same, start_found, found_known, round_found, round_exact, enough_still, found_enough, enough_all}
+use Rattle.segments.proofs.RoundsEnd.{found_same, found_known, round_found, round_exact, enough_still, found_enough, enough_all}
 use Rattle.segments.proofs.TableSlots.{same_all, same_first}
 use Rattle.segments.proofs.distances.find_distances.Goals as goal
-
-pub loop-k-init : goal.loop-k-init
-loop-k-init g c =
-    let net = g.M.Map.meaning c.args.map.now in
-    let sound = g.M.Map.sound c.args.map.now in
-    (start_found net sound c.args.n c.start_distances.new.dist c.start_distances.ensures, λ j e. omega arith)
 
 pub round-requires : goal.round-requires
 round-requires g c =

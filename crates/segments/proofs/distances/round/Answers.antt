@@ -1,6 +1,5 @@
-use Rattle.std.proofs.Common.{◌*◌, ◌≤◌, sym, ◌∙◌, subst, arith}
+use Rattle.std.proofs.Common.{arith}
 use Rattle.segments.specs.Distances.{delays}
-use Rattle.segments.proofs.NodesReached.{held_sound, few_nodes}
 use Rattle.segments.proofs.RoundMade.{round_first, round_all, place_empty, place_filled}
 use Rattle.segments.proofs.distances.round.Goals as goal
 use Rattle.segments.proofs.distances.round.Goals.{in-Some, in_default}
@@ -9,20 +8,6 @@ pub loop-place-init : goal.loop-place-init
 loop-place-init g c =
     let net = g.M.Map.meaning c.args.map.now in
     round_first net c.args.n c.args.dist.now (delays c.carry_over.new.spread) c.carry_over.ensures
-
-pub sweep-requires : goal.sweep-requires
-sweep-requires g c =
-    let net = g.M.Map.meaning c.args.map.now in
-    let sound = g.M.Map.sound c.args.map.now in
-    let s = held_sound net sound c.args.n c.requires.nodes c.loop-place.place c.in-Some.link c.in-Some.ensures in
-    record {
-      nodes = few_nodes net sound c.args.n c.requires.nodes;
-      tail = s.tail;
-      head = s.head;
-      sized = c.requires.sized;
-      space = subst (λ m. c.args.n * c.args.n ≤ m) (sym (c.loop-place.auto.spread ∙ c.carry_over.auto.spread)) c.requires.space;
-      known = c.requires.known;
-    }
 
 pub loop-place-preserved : goal.loop-place-preserved
 loop-place-preserved g c =
