@@ -5,15 +5,11 @@ use Rattle.netmap.specs.declared.link.Link.{Link}
 use Rattle.questions.specs.Asking.{first_no}
 use Rattle.netmap.specs.Changes.{link_questions}
 use Rattle.netmap.specs.Net.{SoundLink}
-use Rattle.netmap.specs.Opening.{size_denial}
 
 pub record InLimits (n m : ℕ) : Type 0 where
   pub low : 1 ≤ n
   pub high : n ≤ 64
   pub few : m ≤ 256
-
-pub sizes_granted : (n m : ℕ) → InLimits n m → size_denial n m ≡ None
-sizes_granted n m s = grind (arith, common_steps)
 
 -- a weight comes from 16 bits, so no question asks for its upper limit
 pub link_passes : (n : ℕ) (l : Link) (p : ℕ) → first_no (link_questions n l p) ≡ None → l.weight ≤ 65535 → SoundLink n l
