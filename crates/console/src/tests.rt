@@ -3,7 +3,7 @@ use crate::{conclude, read_input};
 use std::cell::RefCell;
 use std::fmt::{Display, Write};
 use std::io;
-use std::io::ErrorKind;
+use std::io::{ErrorKind, Read};
 use std::test::Fail;
 
 #[test]
@@ -18,6 +18,35 @@ fn an_input_is_read_to_one_byte_beyond_its_limit(rt: HostRuntime) -> Result<(), 
         assert_eq!(rt; bytes.as_slice(), read);
     }
     Ok(())
+}
+
+// An input that gives one byte and then fails.
+#[derive(Drop)]
+struct Torn {
+    given: bool,
+}
+
+impl Read for Torn {
+    fn read(&mut self, buf: &mut [u8]) -> io::Result<usize> {
+        if self.given {
+            return Err(io::Error::from(ErrorKind::BrokenPipe));
+        }
+        self.given = true;
+        let Some(byte) = buf.first_mut() else {
+            return Ok(0);
+        };
+        *byte = 7;
+        Ok(1)
+    }
+}
+
+#[test]
+fn an_input_that_fails_gives_no_bytes(rt: HostRuntime) {
+    let error = read_input(rt.alloc(), Torn { given: false }, 3).err();
+    assert_eq!(rt;
+        error.map(|error| error.kind()),
+        Some(ErrorKind::BrokenPipe)
+    );
 }
 
 // A standard error that keeps what is written to it.
