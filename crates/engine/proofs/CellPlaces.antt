@@ -1,7 +1,8 @@
 -- Where the cells of the table lie.
-use Rattle.std.proofs.Common.{ℕ, ◌+◌, ◌*◌, ◌<◌, ◌≤◌, mul-le-mul, arith, w64, Fits, rules}
+use Rattle.std.proofs.Common.{◌≡◌, ℕ, ◌+◌, ◌-◌, ◌*◌, ◌<◌, ◌≤◌, List, length, take, drop, get_or, None, Option, ap, ◌∙◌, mul-le-mul, mul-le-mul_right, arith, w64, Fits, rules}
+use Rattle.std.proofs.lemmas.List.{get_or-take, get_or-drop}
 use lib.Arith.{digits_lt}
-use Rattle.engine.specs.Cells.{slot}
+use Rattle.engine.specs.Cells.{slot, best_of}
 
 -- a cell of an earlier row lies before a later row
 pub row_before : (w q p d : ℕ) → q < p → d < w → q * w + d < p * w
@@ -32,6 +33,18 @@ slot_end n top l v d m h k small = row_before (top + 1) (l * n + v) (m * n) d (l
 
 pub room_slot : (n top l v d limit long : ℕ) → l ≤ limit → v < n → d ≤ top → (limit + 1) * n * (top + 1) ≤ long → slot n top l v d < long
 room_slot n top l v d limit long h k small room = omega (arith, slot_end n top l v d (limit + 1) (omega arith) k small)
+
+-- a level begins with the row of its first node
+pub level_first : (n top l v : ℕ) → slot n top l 0 0 ≤ slot n top l v 0
+level_first n top l v = omega (arith, mul-le-mul_right {m = l * n + 0} {n = l * n + v} (top + 1) (omega arith))
+
+-- the row of a node of one level lies before the next level
+pub rests_below : (n top l v from long : ℕ) → v < n → from ≡ slot n top l v 0 → slot n top (l + 1) 0 0 ≤ long → from + top < long
+rests_below n top l v from long node is room = omega (arith, is, slot_before n top l (l + 1) v 0 top (omega arith) node (omega arith), room)
+
+-- and is read there
+pub rests_read : {V : Type 0} (n top l v from : ℕ) (below : List (Option V)) → from ≡ slot n top l v 0 → from + top < length below → (j : ℕ) → j ≤ top → get_or (take (length below - from) (drop from below)) j None ≡ best_of n top below l j v
+rests_read n top l v from below is inside j small = get_or-take (length below - from) (drop from below) j None (omega arith) ∙ get_or-drop from below j None ∙ ap (λ i. get_or below i None) (omega (arith, is))
 
 pub cells_fit : (x : ℕ) → x ≤ 1000000 → Fits w64 x
 cells_fit x h = search rules

@@ -1,12 +1,12 @@
 -- From the gathered cells to the front of an order, and the denials of a front.
-use Rattle.std.proofs.Common.{◌≡◌, ℕ, ◌+◌, ◌-◌, ◌<◌, ◌≤◌, Bool, leb, List, [], ◌∷◌, ◌++◌, length, take, drop, Some, None, Ok, Err, Option, Result, sym, refl, ap, ◌∙◌, subst, arith, length-append, length-drop}
+use Rattle.std.proofs.Common.{◌≡◌, ℕ, ◌+◌, ◌<◌, ◌≤◌, Bool, leb, List, [], ◌∷◌, ◌++◌, length, take, drop, Some, None, Ok, Err, Option, Result, sym, refl, ap, ◌∙◌, subst, arith, length-append, length-drop}
 use Rattle.std.proofs.lemmas.Bool.{le-leb, lt-leb}
 use Rattle.std.proofs.lemmas.List.{take_at, drop_at, length-take-le}
 use Rattle.questions.specs.declared.denial.Denial.{Denial}
 use Rattle.netmap.specs.Net.{Net, Sound}
 use Rattle.segments.specs.Algebra.{Algebra, Laws}
 use Rattle.segments.specs.declared.order.Order.{Order}
-use Rattle.engine.specs.Cells.{best_of, FilledTo}
+use Rattle.engine.specs.Cells.{best_of, cells_at, FilledTo}
 use Rattle.engine.specs.Chosen.{Whole}
 use Rattle.engine.specs.Fronts.{Had, held, most_grains_of}
 use Rattle.keeper.specs.Fronts.{Optimal, Front}
@@ -46,9 +46,6 @@ module _ {V : Type 0} (net : Net) (alg : Algebra V) (lawful : Laws alg) (sound :
       }
 
 -- the first slots, as a part of the slice is read
-pub first_long : {V : Type 0} (n : ℕ) (xs : List (Option V)) → n ≤ length xs → length (take (n - 0) xs) ≡ n
-first_long n xs h = let same : n - 0 ≡ n = omega arith in ap (λ k. length (take k xs)) same ∙ length-take-le n xs h
-
 pub front_filled : {V : Type 0} (net : Net) (alg : Algebra V) (o : Order) (before part : List (Option V)) (cut count : ℕ) → cut ≡ most_grains_of o + 1 → cut ≤ length before → length part ≡ most_grains_of o + 1 → Front alg.as_good (Had net alg o) part → count ≡ held part
     → Filled net alg o before (part ++ drop cut before) (Ok count)
 front_filled net alg o before part cut count cut-is fits long front count-is =
@@ -68,20 +65,21 @@ module _ {V : Type 0} (net : Net) (alg : Algebra V) (o : Order) (room : Room) (b
       subst (λ d. FrontBy net alg o d before after r) (sym (first_after (order_questions net o room) (last ∷ []) none ∙ yes-last)) filled
 
 -- the slots that the code counts to are those that the order leaves
-pub front_returned : {V : Type 0} (net : Net) (alg : Algebra V) → Laws alg → Sound net → (o : Order) (room : Room) (n top : ℕ) (table before part : List (Option V)) (count : ℕ)
-    → order_denial net o room ≡ None → top ≡ most_grains_of o → top + 1 ≤ length before
-    → FilledTo net alg o.grain.0 o.target n top o.limit.0 table → Gathered alg.as_good (λ m e. best_of n top table m e o.source) (Whole o.limit.0 top) part
-    → length part ≡ length (take (top + 1 - 0) before) → count ≡ held part
-    → FrontCall net alg o room before (part ++ drop (top + 1 - 0) before) (Ok count)
-front_returned net alg lawful sound o room n top table before part count none top-is space filled gathered long count-is =
+pub front_returned : {V : Type 0} (net : Net) (alg : Algebra V) → Laws alg → Sound net → (o : Order) (room : Room) (n top limit source target : ℕ) (table before part : List (Option V)) (count : ℕ)
+    → order_denial net o room ≡ None → top ≡ most_grains_of o → limit ≡ o.limit.0 → source ≡ o.source → target ≡ o.target → top + 1 ≤ length before
+    → FilledTo net alg o.grain.0 target n top limit table → Gathered alg.as_good (cells_at n top table source) (Whole limit top) part
+    → length part ≡ length (take (top + 1) before) → count ≡ held part
+    → FrontCall net alg o room before (part ++ drop (top + 1) before) (Ok count)
+front_returned net alg lawful sound o room n top limit source target table before part count none top-is limit-is source-is target-is space filled gathered long count-is =
     let a = admitted net o room none in
-    let had = front_had net alg lawful sound o n a.source a.grain_low table
-    (subst (λ t. FilledTo net alg o.grain.0 o.target n t o.limit.0 table) top-is filled) part
-    (subst (λ t. Gathered alg.as_good (λ m e. best_of n t table m e o.source) (Whole o.limit.0 t) part) top-is gathered) in
-    let all : length part ≡ most_grains_of o + 1 = long ∙ first_long (top + 1) before space ∙ ap (λ t. t + 1) top-is in
-    let cut : top + 1 - 0 ≡ most_grains_of o + 1 = omega (arith, top-is) in
-    front_call net alg o room before (part ++ drop (top + 1 - 0) before) (Ok count) none (subst (λ t. t + 1 ≤ length before) top-is space)
-    (front_filled net alg o before part (top + 1 - 0) count cut (omega (arith, space)) all had count-is)
+    let aimed = subst (λ v. FilledTo net alg o.grain.0 v n top limit table) target-is filled in
+    let filled' = subst (λ t. FilledTo net alg o.grain.0 o.target n t o.limit.0 table) top-is (subst (λ l. FilledTo net alg o.grain.0 o.target n top l table) limit-is aimed) in
+    let begun = subst (λ v. Gathered alg.as_good (cells_at n top table v) (Whole limit top) part) source-is gathered in
+    let gathered' = subst (λ t. Gathered alg.as_good (cells_at n t table o.source) (Whole o.limit.0 t) part) top-is (subst (λ l. Gathered alg.as_good (cells_at n top table o.source) (Whole l top) part) limit-is begun) in
+    let had = front_had net alg lawful sound o n a.source a.grain_low table filled' part gathered' in
+    let all : length part ≡ most_grains_of o + 1 = long ∙ length-take-le (top + 1) before space ∙ ap (λ t. t + 1) top-is in
+    front_call net alg o room before (part ++ drop (top + 1) before) (Ok count) none (subst (λ t. t + 1 ≤ length before) top-is space)
+    (front_filled net alg o before part (top + 1) count (ap (λ t. t + 1) top-is) space all had count-is)
 
 pub granted_only : {A X : Type 0} (a : A) (d : Denial) → ◌≡◌ {A = Result A Denial} (Ok a) (Err d) → X
 granted_only a d e = let z : ◌≡◌ {A = ℕ} 0 1 = cc in absurd (omega arith)

@@ -1,11 +1,10 @@
 -- The front of the cells at the source, cell by cell.
-use Rattle.std.proofs.Common.{◌≡◌, ℕ, ◌+◌, ◌<◌, ◌≤◌, Bool, true, List, [], ◌∷◌, length, get_or, Some, None, Option, Result, sym, ap, ◌∙◌, subst, inl, inr, ⊎_elim, zero-add, arith}
-use Rattle.std.proofs.lemmas.Bool.{cases_lt, lt-ltb}
-use Rattle.std.proofs.lemmas.List.{get_or_past}
+use Rattle.std.proofs.Common.{◌≡◌, ℕ, ◌+◌, ◌<◌, ◌≤◌, Bool, true, List, [], ◌∷◌, length, Some, None, Option, Result, sym, ap, ◌∙◌, subst, inl, inr, ⊎_elim, arith}
+use Rattle.std.proofs.lemmas.Bool.{lt-ltb}
 use Rattle.questions.specs.declared.denial.Denial.{Denial}
-use Rattle.engine.specs.Cells.{Blank}
 use Rattle.engine.specs.Chosen.{Passed, Whole}
-use Rattle.keeper.specs.Keepers.{OfferBy, OfferCall}
+use Rattle.keeper.specs.Fronts.{Front}
+use Rattle.keeper.specs.Keepers.{Accepted, OfferBy, OfferCall}
 use Rattle.segments.proofs.OptionValues.{some_same, none_some}
 use Rattle.engine.specs.Offers.{Gathered}
 use Rattle.engine.proofs.CellsPassed.{passed_split, passed_more, column_passed, column_covered, all_passed, all_covered, none_passed}
@@ -50,14 +49,5 @@ module _ {V : Type 0} (good : V → V → Bool) (best : ℕ → ℕ → Option V
   pub gather_all : (limit top d : ℕ) (slots : List (Option V)) → d ≡ top + 1 → Gathered good best (Passed limit d 0) slots → Gathered good best (Whole limit top) slots
   gather_all limit top d slots past = gather_same (Passed limit d 0) (Whole limit top) slots (λ m e. all_passed limit top d m e past) (λ m e. all_covered limit top d m e past)
 
-  pub gather_first : (limit count : ℕ) (before slots : List (Option V)) → length slots ≡ count → Blank 0 count before slots → Gathered good best (Passed limit 0 0) slots
-  gather_first limit count before slots long blank = record {
-    pairs = [];
-    front = record {
-      sound = λ d x s. absurd (none_some (get_or slots d None) x
-          (⊎_elim (λ (h : d < count). ap (λ i. get_or slots i None) (sym (zero-add d)) ∙ blank.empty d h) (λ (h : count ≤ d). get_or_past slots d None (omega arith)) (cases_lt d count)) s);
-      complete = λ d x o. absurd o.member;
-    };
-    only = λ e y a. absurd a;
-    all = λ m e y p. absurd (none_passed limit m e p);
-  }
+  pub gather_first : (limit : ℕ) (slots : List (Option V)) → Front good (Accepted []) slots → Gathered good best (Passed limit 0 0) slots
+  gather_first limit slots front = record { pairs = []; front = front; only = λ e y a. absurd a; all = λ m e y p. absurd (none_passed limit m e p) }

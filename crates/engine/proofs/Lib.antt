@@ -8,11 +8,10 @@ pub mod FrontCovered
 pub mod FrontFilled
 pub mod FrontGathered
 pub mod FrontDetermined
-pub mod LegsBounded
+pub mod HopsBounded
 pub mod LevelsFilled
 pub mod ListRebuilt
 pub mod OrderAdmitted
-pub mod PairsCounted
 pub mod QuoteAnswered
 pub mod QuoteFromTable
 pub mod QuoteUnique
@@ -20,5 +19,4 @@ pub mod RebuiltFirst
 pub mod RebuiltMade
 pub mod RowFilled
 pub mod RunExtended
-pub mod SlotsImproved
 pub mod SourceScanned

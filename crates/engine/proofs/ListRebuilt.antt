@@ -4,8 +4,8 @@ use Rattle.std.proofs.lemmas.List.{take_more_set, append-nil}
 use Rattle.netmap.specs.Net.{Net, Sound}
 use Rattle.segments.specs.Algebra.{Algebra, Laws, AsGood}
 use Rattle.engine.specs.declared.rebuilding.Found.{Found}
-use Rattle.segments.specs.Entries.{Entry}
-use Rattle.engine.proofs.LegsBounded.{LegAt}
+use Rattle.engine.specs.declared.hops.Hop.{Hop}
+use Rattle.engine.specs.Hops.{Hops, HopOf}
 use Rattle.segments.specs.declared.figures.Leg.{Leg}
 use Rattle.segments.specs.Segments.{list_delay, grains_of}
 use Rattle.engine.specs.Cells.{Row}
@@ -19,33 +19,33 @@ use Rattle.engine.proofs.RowFilled.{segment_below}
 use Rattle.segments.proofs.JoinedValues.{as_good_refl}
 
 module _ {V : Type 0} (net : Net) (alg : Algebra V) (lawful : Laws alg) (grain : ℕ) (total : V) (row : ℕ → ℕ → Option V) (p : V) (d v code : ℕ) where
-  pub code_none : Entry net alg v code None → TriedCode net alg grain total row p d v code None
+  pub code_none : HopOf net alg grain v code None → TriedCode net alg grain total row p d v code None
   code_none none a = none a.leg a.segment
 
-  module _ (e : Leg V) (does : LegAt net alg v code e) where
-    same_leg : (a : Attains net alg grain total row p d v code) → a.leg ≡ e
-    same_leg a = segments_functional alg lawful net v code a.leg e a.segment does.segment
+  module _ (h : Hop V) (does : Hops net alg grain v code h) where
+    same_leg : (a : Attains net alg grain total row p d v code) → a.leg ≡ h.leg
+    same_leg a = segments_functional alg lawful net v code a.leg h.leg a.segment does.segment
 
-    same_grains : (a : Attains net alg grain total row p d v code) → grains_of grain a.leg.delay.0 ≡ grains_of grain e.delay.0
-    same_grains a = ap (λ (h : Leg V). grains_of grain h.delay.0) (same_leg a)
+    spent : (a : Attains net alg grain total row p d v code) → h.grains + a.rest ≡ d
+    spent a = omega (arith, does.grains, a.grains, ap (λ (k : Leg V). grains_of grain k.delay.0) (same_leg a))
 
-    pub code_far : (g : ℕ) → g ≡ grains_of grain e.delay.0 → d < g → TriedCode net alg grain total row p d v code None
-    code_far g is far a = omega (arith, is, far, a.grains, same_grains a)
+    pub code_far : d < h.grains → TriedCode net alg grain total row p d v code None
+    code_far far a = omega (arith, far, spent a)
 
-    module _ (g : ℕ) (is : g ≡ grains_of grain e.delay.0) (near : g ≤ d) where
-      below_is : (a : Attains net alg grain total row p d v code) → row (d - g) e.to ≡ Some a.suffix
+    module _ (rest : ℕ) (is : h.grains + rest ≡ d) where
+      below_is : (a : Attains net alg grain total row p d v code) → row rest h.leg.to ≡ Some a.suffix
       below_is a =
-          let rest-is : a.rest ≡ d - g = omega (arith, is, near, a.grains, same_grains a) in
-          ap (λ j. row j e.to) (sym rest-is) ∙ ap (λ (h : Leg V). row a.rest h.to) (sym (same_leg a)) ∙ a.below
+          let rest-is : a.rest ≡ rest = omega (arith, is, spent a) in
+          ap (λ j. row j h.leg.to) (sym rest-is) ∙ ap (λ (k : Leg V). row a.rest k.to) (sym (same_leg a)) ∙ a.below
 
-      pub code_empty : row (d - g) e.to ≡ None → TriedCode net alg grain total row p d v code None
-      code_empty none a = none_some (row (d - g) e.to) a.suffix none (below_is a)
+      pub code_empty : row rest h.leg.to ≡ None → TriedCode net alg grain total row p d v code None
+      code_empty none a = none_some (row rest h.leg.to) a.suffix none (below_is a)
 
-      module _ (x whole : V) (below : row (d - g) e.to ≡ Some x) (whole_is : whole ≡ alg.join (alg.join p e.value) x) where
+      module _ (x whole : V) (below : row rest h.leg.to ≡ Some x) (whole_is : whole ≡ alg.join (alg.join p h.leg.value) x) where
         whole_total : (a : Attains net alg grain total row p d v code) → whole ≡ total
         whole_total a =
-            whole_is ∙ ap (alg.join (alg.join p e.value)) (some_same (row (d - g) e.to) x a.suffix below (below_is a))
-            ∙ ap (λ (h : Leg V). alg.join (alg.join p h.value) a.suffix) (sym (same_leg a)) ∙ a.attained
+            whole_is ∙ ap (alg.join (alg.join p h.leg.value)) (some_same (row rest h.leg.to) x a.suffix below (below_is a))
+            ∙ ap (λ (k : Leg V). alg.join (alg.join p k.value) a.suffix) (sym (same_leg a)) ∙ a.attained
 
         pub code_worse : (AsGood alg whole total → ⊥) → TriedCode net alg grain total row p d v code None
         code_worse bad a = bad (subst (AsGood alg whole) (whole_total a) (as_good_refl alg lawful whole))
@@ -53,18 +53,18 @@ module _ {V : Type 0} (net : Net) (alg : Algebra V) (lawful : Laws alg) (grain :
         pub code_better : (AsGood alg total whole → ⊥) → TriedCode net alg grain total row p d v code None
         code_better bad a = bad (subst (AsGood alg total) (sym (whole_total a)) (as_good_refl alg lawful total))
 
-        pub code_found : AsGood alg whole total → AsGood alg total whole → (f : Found V) → f ≡ record { code = code; leg = e; rest = d - g } → TriedCode net alg grain total row p d v code (Some f)
-        code_found one two f f-is =
+        pub code_found : AsGood alg whole total → AsGood alg total whole → TriedCode net alg grain total row p d v code (Some (record { code = code; leg = h.leg; rest = rest }))
+        code_found one two =
             let a : Attains net alg grain total row p d v code = record {
-              leg = e;
-              rest = d - g;
+              leg = h.leg;
+              rest = rest;
               suffix = x;
               segment = does.segment;
-              grains = omega (arith, is, near);
+              grains = omega (arith, is, does.grains);
               below = below;
               attained = sym whole_is ∙ lawful.antisymmetric whole total one two;
             } in
-            subst (λ (k : Found V). TriedCode net alg grain total row p d v code (Some k)) (sym f-is) (refl, a, refl, refl, does.on, does.small)
+            (refl, a, refl, refl, does.on, does.small)
 
   pub found_at : (f : Found V) → TriedCode net alg grain total row p d v code (Some f) → ((b : ℕ) → b < code → Attains net alg grain total row p d v b → ⊥) → FoundAt net alg grain total row p d v f
   found_at f t least =

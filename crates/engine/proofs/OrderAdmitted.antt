@@ -1,7 +1,9 @@
 -- What an order keeps whose questions are all answered yes.
-use Rattle.std.proofs.Common.{◌≡◌, ℕ, ◌+◌, ◌*◌, ◌<◌, ◌≤◌, ◌&&◌, ltb, leb, None, sym, ap, ◌∙◌, subst, mul_assoc, mul_comm}
+use Rattle.std.proofs.Common.{◌≡◌, ℕ, ◌+◌, ◌*◌, ◌<◌, ◌≤◌, ◌&&◌, ltb, leb, None, Result, sym, ap, ◌∙◌, subst, mul_assoc, mul_comm}
 use Rattle.std.proofs.lemmas.Bool.{and_parts, ltb-true, leb-true}
 use Rattle.netmap.specs.Net.{Net}
+use Rattle.questions.specs.declared.denial.Denial.{Denial}
+use Rattle.questions.specs.Asking.{reply}
 use Rattle.questions.proofs.Asking.{all_yes}
 use Rattle.segments.specs.declared.order.Order.{Order}
 use Rattle.engine.specs.declared.checks.Room.{Room}
@@ -39,3 +41,7 @@ admitted net o room e =
       spread = leb-true _ _ squares.1;
       table = subst (λ x. x ≤ room.table) (swap (o.limit.0 + 1) (most_grains_of o + 1) net.nodes) (leb-true _ _ space.1);
     }
+
+-- what was asked of a room, asked of the lengths of the slices
+pub asked_of : (net : Net) (o : Order) (a b : Room) (r : Result (Unit {0}) Denial) → a ≡ b → r ≡ reply (order_denial net o a) tt → r ≡ reply (order_denial net o b) tt
+asked_of net o a b r is e = e ∙ ap (λ k. reply (order_denial net o k) tt) is

@@ -1,77 +1,70 @@
 -- A row of the table, filled code by code.
-use Rattle.std.proofs.Common.{◌≡◌, ℕ, ◌+◌, ◌-◌, ◌<◌, ◌≤◌, List, get_or, None, Option, sym, refl, ap, ◌∙◌, subst, inl, inr, ⊎_elim, add-one, arith}
+use Rattle.std.proofs.Common.{◌≡◌, ℕ, ◌+◌, ◌-◌, ◌<◌, ◌≤◌, List, length, take, drop, get_or, None, Option, sym, refl, ap, ◌∙◌, subst, inl, inr, ⊎_elim, add-one, arith}
 use Rattle.std.proofs.lemmas.Bool.{cases_lt}
+use Rattle.std.proofs.lemmas.List.{get_or-take, get_or-drop}
+use borrow.Rule.Slice.PartMut.{put_mid, mid_len}
 use Rattle.netmap.specs.Net.{Net, Sound}
 use Rattle.segments.specs.Algebra.{Algebra, Laws}
 use Rattle.segments.specs.declared.figures.Leg.{Leg}
-use Rattle.segments.specs.Segments.{Segment, grains_of}
-use Rattle.segments.specs.Entries.{Entry}
-use Rattle.engine.proofs.LegsBounded.{LegAt}
-use Rattle.engine.specs.Cells.{slot, best_of, merge, Improved, Blank, Kept, Row, Cell, BestOf, Candidate}
+use Rattle.segments.specs.Segments.{Segment}
+use Rattle.keeper.proofs.PartsWritten.{before_part, within_part}
+use Rattle.engine.specs.declared.hops.Hop.{Hop}
+use Rattle.engine.specs.Hops.{Hops, HopOf}
+use Rattle.engine.specs.Cells.{merge, Improved, Row, Cell, BestOf, Candidate}
 use Rattle.engine.proofs.CellExtended.{cell_more}
-use Rattle.engine.proofs.CellPlaces.{slot_before}
 use Rattle.engine.proofs.CandidatesBest.{CandidateTo, best_same, cand_none, cand_far, cand_merge}
 
--- the row from the place `at` on holds the best candidates of the codes below c, and all before it stays
-pub record RowTo {V : Type 0} (net : Net) (alg : Algebra V) (grain top : ℕ) (row : ℕ → ℕ → Option V) (at v c : ℕ) (before xs : List (Option V)) : Type 0 where
-  pub kept : Kept at before xs
-  pub best : (d : ℕ) → d ≤ top → BestOf alg (CandidateTo net alg grain row d v c) (get_or xs (at + d) None)
+-- the row holds the best candidates of the codes below c
+abbrev pub RowTo : {V : Type 0} → Net → Algebra V → ℕ → ℕ → (ℕ → ℕ → Option V) → ℕ → ℕ → List (Option V) → Type 0
+RowTo net alg grain top row v c xs = (d : ℕ) → d ≤ top → BestOf alg (CandidateTo net alg grain row d v c) (get_or xs d None)
 
-module _ {V : Type 0} (net : Net) (alg : Algebra V) (lawful : Laws alg) (grain n top l at v c : ℕ) (before xs : List (Option V))
-    (at-is : at ≡ slot n top (l + 1) v 0) (nodes : n ≡ net.nodes)
-    (inv : RowTo net alg grain top (best_of n top before l) at v c before xs) where
-  pub row_none : Entry net alg v c None → RowTo net alg grain top (best_of n top before l) at v (c + 1) before xs
-  row_none none = record { kept = inv.kept; best = λ d small. cand_none net alg lawful grain (best_of n top before l) d v c (get_or xs (at + d) None) (inv.best d small) none }
+module _ {V : Type 0} (net : Net) (alg : Algebra V) (lawful : Laws alg) (grain top : ℕ) (row : ℕ → ℕ → Option V) (v c : ℕ) (xs : List (Option V)) (inv : RowTo net alg grain top row v c xs) where
+  pub row_none : HopOf net alg grain v c None → RowTo net alg grain top row v (c + 1) xs
+  row_none none d small = cand_none net alg lawful grain row d v c (get_or xs d None) (inv d small) none
 
-  module _ (e : Leg V) (does : LegAt net alg v c e) where
-    pub row_far : top < grains_of grain e.delay.0 → RowTo net alg grain top (best_of n top before l) at v (c + 1) before xs
-    row_far far = record { kept = inv.kept; best = λ d small. cand_far net alg lawful grain (best_of n top before l) d v c (get_or xs (at + d) None) (inv.best d small) e does.segment (omega arith) }
+  module _ (h : Hop V) (does : Hops net alg grain v c h) where
+    far_at : (d : ℕ) → d ≤ top → d < h.grains → BestOf alg (CandidateTo net alg grain row d v (c + 1)) (get_or xs d None)
+    far_at d small far = cand_far net alg lawful grain row d v c (get_or xs d None) (inv d small) h.leg does.segment (omega (arith, far, does.grains))
 
-    pub row_more : (g from : ℕ) (ys : List (Option V)) → g ≡ grains_of grain e.delay.0 → g ≤ top → from ≡ slot n top l e.to 0 → Improved alg from (at + g) (top + 1 - g) e.value xs ys → RowTo net alg grain top (best_of n top before l) at v (c + 1) before ys
-    row_more g from ys g-is within from_is imp = record {
-      kept = λ i h. imp.kept i (omega arith) ∙ inv.kept i h;
-      best = λ d small. ⊎_elim
-          (λ (h : d < g).
-          subst (BestOf alg (CandidateTo net alg grain (best_of n top before l) d v (c + 1))) (sym (imp.kept (at + d) (omega arith)))
-          (cand_far net alg lawful grain (best_of n top before l) d v c (get_or xs (at + d) None) (inv.best d small) e does.segment (omega arith)))
-          (λ (h : g ≤ d).
-          let rest = d - g in
-          let there : at + d ≡ at + g + rest = omega arith in
-          let low : slot n top l e.to rest < at = omega (arith, slot_before n top l (l + 1) e.to v rest (omega arith) (omega (arith, does.on)) (omega arith)) in
-          let old = get_or xs (at + d) None in
-          let from-there : from + rest ≡ slot n top l e.to rest = omega arith in
-          let below : get_or xs (from + rest) None ≡ best_of n top before l rest e.to = ap (λ i. get_or xs i None) from-there ∙ inv.kept (slot n top l e.to rest) low in
-          let is : get_or ys (at + d) None ≡ merge alg old e.value (best_of n top before l rest e.to) =
-          ap (λ i. get_or ys i None) there ∙ imp.taken rest (omega arith) ∙ ap (λ i. merge alg (get_or xs i None) e.value (get_or xs (from + rest) None)) (sym there) ∙ ap (merge alg old e.value) below in
-          subst (BestOf alg (CandidateTo net alg grain (best_of n top before l) d v (c + 1))) (sym is)
-          (cand_merge net alg lawful grain (best_of n top before l) d v c old (inv.best d small) e does.segment rest (omega arith) (best_of n top before l rest e.to) refl))
-          (cases_lt d g);
-    }
+    pub row_far : top < h.grains → RowTo net alg grain top row v (c + 1) xs
+    row_far far d small = far_at d small (omega arith)
 
-pub row_start : {V : Type 0} (net : Net) (alg : Algebra V) (grain top at v : ℕ) (row : ℕ → ℕ → Option V) (first before : List (Option V)) → Blank at (top + 1) first before → RowTo net alg grain top row at v 0 before before
-row_start net alg grain top at v row first before b = record {
-  kept = λ i h. refl;
-  best = λ d small. subst (BestOf alg (CandidateTo net alg grain row d v 0)) (sym (b.empty d (omega arith))) (λ y k. omega (arith, k.1));
-}
+    pub row_more : (rests part : List (Option V)) → h.grains ≤ top → length xs ≡ top + 1 → length part ≡ length xs - h.grains → ((j : ℕ) → j ≤ top → get_or rests j None ≡ row j h.leg.to)
+        → Improved alg h.leg.value rests (take (length xs - h.grains) (drop h.grains xs)) part → RowTo net alg grain top row v (c + 1) (put_mid h.grains (length xs - h.grains) xs part)
+    row_more rests part near long cut read improved d small = ⊎_elim
+        (λ (far : d < h.grains). subst (BestOf alg (CandidateTo net alg grain row d v (c + 1))) (sym (before_part h.grains k xs part None inside cut d far)) (far_at d small far))
+        (λ (at : h.grains ≤ d).
+        let j = d - h.grains in
+        let there : h.grains + j ≡ d = omega arith in
+        let few : j < k = omega arith in
+        let old : get_or (take k (drop h.grains xs)) j None ≡ get_or xs d None = get_or-take k (drop h.grains xs) j None few ∙ get_or-drop h.grains xs j None ∙ ap (λ i. get_or xs i None) there in
+        let is : get_or after d None ≡ merge alg (get_or xs d None) h.leg.value (row j h.leg.to) =
+        ap (λ i. get_or after i None) (sym there) ∙ within_part h.grains k xs part None inside cut j few ∙ improved j (omega (arith, held)) ∙ ap (λ o. merge alg o h.leg.value (get_or rests j None)) old ∙ ap (merge alg (get_or xs d None) h.leg.value) (read j (omega arith)) in
+        subst (BestOf alg (CandidateTo net alg grain row d v (c + 1))) (sym is) (cand_merge net alg lawful grain row d v c (get_or xs d None) (inv d small) h.leg does.segment j (omega (arith, does.grains)) (row j h.leg.to) refl))
+        (cases_lt d h.grains)
+      where
+        k : ℕ
+        k = length xs - h.grains
+
+        after : List (Option V)
+        after = put_mid h.grains k xs part
+
+        inside : h.grains + k ≤ length xs
+        inside = omega arith
+
+        held : length (take k (drop h.grains xs)) ≡ k
+        held = mid_len h.grains (length xs) xs (omega arith)
+
+pub row_start : {V : Type 0} (net : Net) (alg : Algebra V) (grain top v : ℕ) (row : ℕ → ℕ → Option V) (xs : List (Option V)) → ((d : ℕ) → get_or xs d None ≡ None) → RowTo net alg grain top row v 0 xs
+row_start net alg grain top v row xs empty d small = subst (BestOf alg (CandidateTo net alg grain row d v 0)) (sym (empty d)) (λ y k. omega (arith, k.1))
 
 pub segment_below : {V : Type 0} (net : Net) (alg : Algebra V) (v code : ℕ) (h : Leg V) → Segment net alg v code h → code < 512
 segment_below net alg v code h (inl s) = omega (arith, s.range)
 segment_below net alg v code h (inr s) = s.high
 
-module _ {V : Type 0} (net : Net) (alg : Algebra V) (lawful : Laws alg) (sound : Sound net) (grain n top l at v c : ℕ) (first before xs : List (Option V))
-    (at-is : at ≡ slot n top (l + 1) v 0) (nodes : n ≡ net.nodes) (node : v < n) (past : 512 ≤ c) (blank : Blank at (top + 1) first before)
-    (inv : RowTo net alg grain top (best_of n top before l) at v c before xs) where
-  pub row_kept : Kept (slot n top (l + 1) v 0) first xs
-  row_kept i h = let k : i < at = omega arith in inv.kept i k ∙ blank.kept i k
-
-  pub row_cells : (target : ℕ) → Row net alg grain target top l (best_of n top first l) → (d : ℕ) → d ≤ top → Cell net alg grain target (l + 1) d v (best_of n top xs (l + 1) d v)
-  row_cells target good d small =
-      let row = best_of n top before l in
-      let good' : Row net alg grain target top l row = λ e u h on.
-      let low : slot n top l u e < at = omega (arith, slot_before n top l (l + 1) u v e (omega arith) (omega arith) h) in
-      subst (Cell net alg grain target l e u) (sym (blank.kept (slot n top l u e) low)) (good e u h on) in
-      let all : BestOf alg (Candidate net alg grain row d v) (get_or xs (at + d) None) =
-      best_same alg (CandidateTo net alg grain row d v c) (Candidate net alg grain row d v) (get_or xs (at + d) None) (λ z k. k.0) (λ z k. (k, omega (arith, segment_below net alg v k.code k.leg k.segment))) (inv.best d small) in
-      let cell = cell_more net alg grain target lawful sound top l row good' d v (get_or xs (at + d) None) small (omega arith) all in
-      let there : at + d ≡ slot n top (l + 1) v d = omega arith in
-      subst (λ i. Cell net alg grain target (l + 1) d v (get_or xs i None)) there (subst (λ m. Cell net alg grain target m d v (get_or xs (at + d) None)) (sym (add-one l)) cell)
+pub row_cells : {V : Type 0} (net : Net) (alg : Algebra V) (lawful : Laws alg) (sound : Sound net) (grain top l v c : ℕ) (row : ℕ → ℕ → Option V) (xs : List (Option V)) → v < net.nodes → 512 ≤ c → RowTo net alg grain top row v c xs
+    → (target : ℕ) → Row net alg grain target top l row → (d : ℕ) → d ≤ top → Cell net alg grain target (l + 1) d v (get_or xs d None)
+row_cells net alg lawful sound grain top l v c row xs node past inv target good d small =
+    let all : BestOf alg (Candidate net alg grain row d v) (get_or xs d None) =
+    best_same alg (CandidateTo net alg grain row d v c) (Candidate net alg grain row d v) (get_or xs d None) (λ z k. k.0) (λ z k. (k, omega (arith, segment_below net alg v k.code k.leg k.segment))) (inv d small) in
+    subst (λ m. Cell net alg grain target m d v (get_or xs d None)) (sym (add-one l)) (cell_more net alg grain target lawful sound top l row good d v (get_or xs d None) small node all)

@@ -49,13 +49,9 @@ slot n top l v d = (l * n + v) * (top + 1) + d
 abbrev pub best_of : {V : Type 0} → ℕ → ℕ → List (Option V) → ℕ → ℕ → ℕ → Option V
 best_of n top table l d v = slice_index_or table (slot n top l v d) None
 
--- a slice of the length has the cells of n nodes, up to top grains and up to limit entries, and the source is a node
-pub record HasCells (n top limit source long : ℕ) : Type 0 where
-  pub nodes : n ≤ 64
-  pub top_high : top ≤ 1000
-  pub limit_high : limit ≤ 10
-  pub node : source < n
-  pub room : (limit + 1) * n * (top + 1) ≤ long
+-- the cells of one node, by number of entries and of grains
+abbrev pub cells_at : {V : Type 0} → ℕ → ℕ → List (Option V) → ℕ → ℕ → ℕ → Option V
+cells_at n top table v l d = best_of n top table l d v
 
 -- the better of what a slot holds and a value; what is held stays at a tie
 abbrev pub better_of : {V : Type 0} → Algebra V → Option V → V → Option V
@@ -71,15 +67,9 @@ merge alg held value (Some x) = better_of alg held (alg.join value x)
 abbrev pub Kept : {V : Type 0} → ℕ → List (Option V) → List (Option V) → Type 0
 Kept at before after = (i : ℕ) → i < at → slice_index_or after i None ≡ slice_index_or before i None
 
--- the slots from the place to on took what the entry makes of those from the place from on; those before it stay
-pub record Improved {V : Type 0} (alg : Algebra V) (from to count : ℕ) (value : V) (before after : List (Option V)) : Type 0 where
-  pub kept : (i : ℕ) → i < to → slice_index_or after i None ≡ slice_index_or before i None
-  pub taken : (d : ℕ) → d < count → slice_index_or after (to + d) None ≡ merge alg (slice_index_or before (to + d) None) value (slice_index_or before (from + d) None)
-
--- the slots from a place on are empty, and those before it stay
-pub record Blank {V : Type 0} (from count : ℕ) (before after : List (Option V)) : Type 0 where
-  pub kept : (i : ℕ) → i < from → slice_index_or after i None ≡ slice_index_or before i None
-  pub empty : (d : ℕ) → d < count → slice_index_or after (from + d) None ≡ None
+-- a row took what the entry makes of the rests
+abbrev pub Improved : {V : Type 0} → Algebra V → V → List (Option V) → List (Option V) → List (Option V) → Type 0
+Improved alg value rests before after = (d : ℕ) → d < length before → slice_index_or after d None ≡ merge alg (slice_index_or before d None) value (slice_index_or rests d None)
 
 module _ {V : Type 0} (net : Net) (alg : Algebra V) (grain target n top : ℕ) where
   -- the rows of up to l entries are filled

@@ -1,5 +1,5 @@
 -- The pairs of grains and value that the lists within an order have, and how many slots of a front hold one.
-use Rattle.std.specs.Prelude.{◌≡◌, ℕ, ◌+◌, ◌/◌, cond, List, [], ◌∷◌, is_some, Option}
+use Rattle.std.specs.Prelude.{◌≡◌, ℕ, ◌/◌, List, count_by, is_some, Option}
 use Rattle.netmap.specs.Net.{Net}
 use Rattle.segments.specs.Algebra.{Algebra}
 use Rattle.segments.specs.declared.order.Order.{Order}
@@ -9,8 +9,7 @@ use Rattle.segments.specs.Orders.{Within}
 
 -- how many slots hold a value
 abbrev pub held : {V : Type 0} → List (Option V) → ℕ
-held [] = 0
-held (s ∷ ss) = cond (is_some s) 1 0 + held ss
+held slots = count_by is_some slots
 
 -- a list within the order has the pair
 pub record Had {V : Type 0} (net : Net) (alg : Algebra V) (o : Order) (d : ℕ) (x : V) : Type 0 where

@@ -2,6 +2,7 @@ pub mod Calls
 pub mod Cells
 pub mod Chosen
 pub mod Fronts
+pub mod Hops
 pub mod Offers
 pub mod Quotes
 pub mod Rebuilds

@@ -1,12 +1,13 @@
 // The questions that a quote and a front both ask of an order.
 ghost use Rattle.std.specs.Prelude.{◌≡◌, ◌+◌, ◌*◌, ◌≤◌, ◌&&◌, nat_le};
 ghost use Rattle.questions.specs.Asking.{reply};
-ghost use Rattle.engine.specs.Calls.{order_denial};
+ghost use Rattle.engine.specs.Calls.{room_of, order_denial};
 ghost use Rattle.engine.specs.Fronts.{most_grains_of};
 
 use netmap::{Map, Microseconds};
 use questions::{Denial, Question};
-use segments::{Labels, Order};
+use segments::{Labels, Order, Spread};
+use tariff::Tariff;
 
 const MAX_LIMIT: Labels = Labels(10);
 
@@ -22,6 +23,28 @@ pub struct Room {
     pub table: usize,
 }
 
+impl Room {
+    pub(crate) fn of<V: Tariff>(dist: &[u32], spread: &[Spread<V>], table: &[Option<V>]) -> Room
+        ensures { result ≡ room_of dist.now spread.now table.now }
+    {
+        Room {
+            dist: dist.len(),
+            spread: spread.len(),
+            table: table.len(),
+        }
+    }
+
+    // Do the working slices hold what the search needs?
+    fn holds(self, n: usize, limit: usize, top: usize) -> bool
+        requires nodes { n ≤ 64 }
+        requires labels { limit ≤ 10 }
+        requires grains { top ≤ 1000 }
+        ensures { result ≡ (nat_le (n * n) self.dist && nat_le (n * n) self.spread && nat_le ((limit + 1) * (top + 1) * n) self.table) }
+    {
+        n * n <= self.dist && n * n <= self.spread && (limit + 1) * (top + 1) * n <= self.table
+    }
+}
+
 // The largest number of grains within the order's bound.
 pub(crate) fn most_grains(order: Order) -> usize
     requires { 1 ≤ order.grain.0 }
@@ -30,20 +53,12 @@ pub(crate) fn most_grains(order: Order) -> usize
     (order.bound.0 / order.grain.0) as usize
 }
 
-// Do the working slices hold what the search needs?
-fn has_room(n: usize, limit: usize, top: usize, room: Room) -> bool
-    requires { (n ≤ 64) × ((limit ≤ 10) × (top ≤ 1000)) }
-    ensures { result ≡ (nat_le (n * n) room.dist && nat_le (n * n) room.spread && nat_le ((limit + 1) * (top + 1) * n) room.table) }
-{
-    n * n <= room.dist && n * n <= room.spread && (limit + 1) * (top + 1) * n <= room.table
-}
-
 // Asks of the nodes, the label limit, the grain, the bound and the working slices.
 pub(crate) fn check_order<M: Map>(map: &M, order: Order, room: Room) -> Result<(), Denial>
     ensures { result ≡ reply (order_denial (M.meaning map.now) order room) tt }
 {
     let n = map.nodes();
-    if order.source as usize >= n || order.target as usize >= n {
+    if usize::from(order.source) >= n || usize::from(order.target) >= n {
         return Err(Denial::of_order(Question::OrderNodes, order.index));
     }
     if order.limit.0 < 1 || order.limit.0 > MAX_LIMIT.0 {
@@ -56,7 +71,7 @@ pub(crate) fn check_order<M: Map>(map: &M, order: Order, room: Room) -> Result<(
     if top > MAX_GRAINS {
         return Err(Denial::of_order(Question::BoundGrains, order.index));
     }
-    if !has_room(n, order.limit.0 as usize, top, room) {
+    if !room.holds(n, usize::from(order.limit.0), top) {
         return Err(Denial::of_order(Question::WorkingSpace, order.index));
     }
     Ok(())

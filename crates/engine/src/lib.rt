@@ -1,9 +1,11 @@
 // Segment lists for orders with a bound on delay, over any map and any tariff.
 #![tactic(auto)]
 
+mod cells;
 mod checks;
 mod choosing;
 mod filling;
+mod hops;
 pub mod pareto;
 pub mod quoting;
 mod rebuilding;

@@ -2,46 +2,45 @@
 ghost use Rattle.std.specs.Prelude.{◌≡◌, ◌+◌, ◌≤◌, length};
 ghost use Rattle.segments.specs.Algebra.{algebra};
 ghost use Rattle.engine.specs.Calls.{room_of, working, Untouched, FrontCall};
-ghost use Rattle.engine.specs.Cells.{best_of, HasCells};
+ghost use Rattle.engine.specs.Cells.{cells_at};
 ghost use Rattle.engine.specs.Chosen.{Passed, Whole};
 ghost use Rattle.engine.specs.Fronts.{held as held_count};
 ghost use Rattle.engine.specs.Offers.{Gathered};
 
+use crate::cells::SourceCells;
 use crate::checks::{Room, check_order, most_grains};
-use crate::filling::fill;
-use crate::search::{Search, SourceCells};
-use crate::table::{blank, read_cell};
-use keeper::offer;
+use crate::search::Search;
+use keeper::{empty_slots, offer};
 use netmap::Map;
 use questions::{Denial, Question};
 use segments::routing::route;
 use segments::{Grains, Order, Spread};
 use tariff::{Ranking, Tariff};
 
-// Offers the cells of d grains at the source to the front.
-fn offer_column<V: Ranking>(cells: SourceCells<V>, d: usize, slots: &mut [Option<V>])
-    requires cells { HasCells cells.n cells.top cells.limit cells.source (length cells.table.now) }
-    requires grains { d ≤ cells.top }
-    requires long { length slots.old ≡ cells.top + 1 }
-    requires gathered { Gathered V.good (λ m e. best_of cells.n cells.top cells.table.now m e cells.source) (Passed cells.limit d 0) slots.old }
-    ensures { Gathered V.good (λ m e. best_of cells.entry.n cells.entry.top cells.entry.table.now m e cells.entry.source) (Passed cells.entry.limit (d + 1) 0) slots.new }
-{
-    for l in 0..cells.limit + 1 {
-        if let Some(value) = read_cell(cells.table, cells.n, cells.top, l, cells.source, d) {
-            let _ = offer(slots, Grains(d as u32), value);
+impl<V: Ranking> SourceCells<'_, '_, V> {
+    // Offers the cells of d grains at the source to the front.
+    fn offer_column(&self, d: usize, slots: &mut [Option<V>])
+        requires grains { d ≤ self.now.search.top }
+        requires long { length slots.old ≡ self.now.search.top + 1 }
+        requires gathered { Gathered V.good (cells_at self.now.search.n self.now.search.top self.now.table.now self.now.source) (Passed self.now.limit d 0) slots.old }
+        ensures { Gathered V.good (cells_at self.now.search.n self.now.search.top self.now.table.now self.now.source) (Passed self.now.limit (d + 1) 0) slots.new }
+    {
+        for l in 0..self.limit + 1 {
+            if let Some(value) = self.read(l, self.source, d) {
+                let _ = offer(slots, Grains(d as u32), value);
+            }
         }
     }
-}
 
-// Leaves in the slots the front of all cells at the source.
-fn gather<V: Ranking>(cells: SourceCells<V>, slots: &mut [Option<V>])
-    requires cells { HasCells cells.n cells.top cells.limit cells.source (length cells.table.now) }
-    requires long { length slots.old ≡ cells.top + 1 }
-    ensures { Gathered V.good (λ m e. best_of cells.entry.n cells.entry.top cells.entry.table.now m e cells.entry.source) (Whole cells.entry.limit cells.entry.top) slots.new }
-{
-    blank(slots, 0, cells.top + 1);
-    for d in 0..cells.top + 1 {
-        offer_column(cells, d, slots);
+    // Leaves in the slots the front of all cells at the source.
+    fn gather(&self, slots: &mut [Option<V>])
+        requires { length slots.old ≡ self.now.search.top + 1 }
+        ensures { Gathered V.good (cells_at self.now.search.n self.now.search.top self.now.table.now self.now.source) (Whole self.now.limit self.now.search.top) slots.new }
+    {
+        empty_slots(slots);
+        for d in 0..self.search.top + 1 {
+            self.offer_column(d, slots);
+        }
     }
 }
 
@@ -49,14 +48,7 @@ fn gather<V: Ranking>(cells: SourceCells<V>, slots: &mut [Option<V>])
 fn count_held<V: Ranking>(slots: &[Option<V>]) -> usize
     ensures { result ≡ held_count slots.now }
 {
-    let mut count = 0;
-    for i in 0..slots.len() {
-        let slot = slots[i];
-        if slot.is_some() {
-            count += 1;
-        }
-    }
-    count
+    slots.iter().filter(|slot| slot.is_some()).count()
 }
 
 // The front of an order into a slot for each number of grains, and how many pairs it has.
@@ -71,18 +63,15 @@ pub fn front<M: Map, V: Tariff>(
     ensures call { FrontCall (M.meaning map.now) (algebra V.good V.joining) order (room_of dist.old spread.old table.old) slots.old slots.new result }
     ensures slices { Untouched result (working dist.old spread.old table.old) (working dist.new spread.new table.new) }
 {
-    let room = Room {
-        dist: dist.len(),
-        spread: spread.len(),
-        table: table.len(),
-    };
-    check_order(map, order, room)?;
+    check_order(map, order, Room::of(dist, spread, table))?;
     let top = most_grains(order);
     if slots.len() < top + 1 {
         return Err(Denial::of_order(Question::FrontSpace, order.index));
     }
     let n = map.nodes();
-    let limit = order.limit.0 as usize;
+    let limit = usize::from(order.limit.0);
+    let source = usize::from(order.source);
+    let target = usize::from(order.target);
     route(map, n, dist, spread);
     let search = Search {
         n,
@@ -91,15 +80,14 @@ pub fn front<M: Map, V: Tariff>(
         grain: order.grain,
         top,
     };
-    fill(map, search, limit, order.target as usize, table);
-    let part = &mut slots[0..top + 1];
+    search.fill(map, limit, target, table);
     let cells = SourceCells {
+        search,
         table,
-        n,
-        top,
         limit,
-        source: order.source as usize,
+        source,
     };
-    gather(cells, part);
+    let part = &mut slots[..top + 1];
+    cells.gather(part);
     Ok(count_held(part))
 }

@@ -5,11 +5,9 @@ ghost use Rattle.segments.specs.Spreads.{Routed};
 ghost use Rattle.engine.specs.Calls.{room_of, working, UntouchedBefore, Searched, QuoteCall};
 ghost use Rattle.engine.specs.Fronts.{most_grains_of};
 
+use crate::cells::SourceCells;
 use crate::checks::{Room, check_order, most_grains};
-use crate::choosing::choose;
-use crate::filling::fill;
-use crate::rebuilding::rebuild;
-use crate::search::{Search, SourceCells};
+use crate::search::Search;
 use netmap::{Map, Microseconds};
 use questions::{Denial, Question};
 use segments::routing::route;
@@ -27,36 +25,33 @@ fn answer<M: Map, V: Tariff>(
     requires routed { Routed (M.meaning map.now) (algebra V.good V.joining) search.n search.dist.now search.spread.now }
     requires grain { search.grain ≡ order.grain }
     requires top { search.top ≡ most_grains_of order }
-    requires ends { (order.source < search.n) × (order.target < search.n) }
+    requires source { order.source < search.n }
+    requires target { order.target < search.n }
     requires limit { order.limit.0 ≤ 10 }
-    requires fine { 1 ≤ search.grain.0 }
-    requires few { search.top ≤ 1000 }
     requires room { (order.limit.0 + 1) * search.n * (search.top + 1) ≤ length table.old }
     requires space { order.limit.0 ≤ length list.old }
     ensures { Searched (M.meaning map.now) (algebra V.good V.joining) order list.old list.new result }
 {
-    let limit = order.limit.0 as usize;
-    let source = order.source as usize;
-    fill(map, search, limit, order.target as usize, table);
+    let limit = usize::from(order.limit.0);
+    let source = usize::from(order.source);
+    let target = usize::from(order.target);
+    search.fill(map, limit, target, table);
     let cells = SourceCells {
+        search,
         table,
-        n: search.n,
-        top: search.top,
         limit,
         source,
     };
-    match choose(cells) {
-        None => Err(Denial::of_order(Question::AnyList, order.index)),
-        Some(choice) => {
-            let delay = rebuild(map, search, table, source, choice, list);
-            Ok(Figures {
-                value: choice.value,
-                grains: Grains(choice.grains as u32),
-                delay: Microseconds(delay),
-                labels: Labels(choice.entries as u16),
-            })
-        }
-    }
+    let Some(choice) = cells.choose() else {
+        return Err(Denial::of_order(Question::AnyList, order.index));
+    };
+    let delay = cells.rebuild(map, choice, list);
+    Ok(Figures {
+        value: choice.value,
+        grains: Grains(choice.grains as u32),
+        delay: Microseconds(delay),
+        labels: Labels(choice.entries as u16),
+    })
 }
 
 // The segment list for an order into the first places of the list space, and its figures.
@@ -72,13 +67,8 @@ pub fn quote<M: Map, V: Tariff>(
     ensures call { QuoteCall (M.meaning map.now) (algebra V.good V.joining) order (room_of dist.old spread.old table.old) list.old list.new result }
     ensures slices { UntouchedBefore result (working dist.old spread.old table.old) (working dist.new spread.new table.new) }
 {
-    let room = Room {
-        dist: dist.len(),
-        spread: spread.len(),
-        table: table.len(),
-    };
-    check_order(map, order, room)?;
-    if list.len() < order.limit.0 as usize {
+    check_order(map, order, Room::of(dist, spread, table))?;
+    if list.len() < usize::from(order.limit.0) {
         return Err(Denial::of_order(Question::ListSpace, order.index));
     }
     let n = map.nodes();

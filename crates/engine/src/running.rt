@@ -21,7 +21,6 @@ pub enum Call {
 
 #[derive(Clone, Copy)]
 pub enum Reply<V> {
-    Pending,
     Changed(Result<(), Denial>),
     Quoted(Result<Figures<V>, Denial>),
     Front(Result<usize, Denial>),
@@ -33,7 +32,7 @@ pub struct Step<V> {
     pub call: Call,
     pub list: Vec<u16>,
     pub slots: Vec<Option<V>>,
-    pub reply: Reply<V>,
+    pub reply: Option<Reply<V>>,
 }
 
 // Makes one call on the map that it finds.
@@ -50,30 +49,30 @@ fn perform<M: Map, V: Tariff>(
 {
     match step.call {
         Call::Put(place, link) => {
-            step.reply = Reply::Changed(map.put(place, link));
+            step.reply = Some(Reply::Changed(map.put(place, link)));
         }
         Call::Remove(place) => {
-            step.reply = Reply::Changed(map.remove(place));
+            step.reply = Some(Reply::Changed(map.remove(place)));
         }
         Call::Quote(order) => {
-            step.reply = Reply::Quoted(quote(
+            step.reply = Some(Reply::Quoted(quote(
                 map,
                 order,
                 dist,
                 spread,
                 table,
                 step.list.as_mut_slice(),
-            ));
+            )));
         }
         Call::Front(order) => {
-            step.reply = Reply::Front(front(
+            step.reply = Some(Reply::Front(front(
                 map,
                 order,
                 dist,
                 spread,
                 table,
                 step.slots.as_mut_slice(),
-            ));
+            )));
         }
     }
 }

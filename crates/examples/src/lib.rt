@@ -3,8 +3,7 @@
 
 ghost use Rattle.examples.specs.Examples.{Settled};
 
-pub fn examples_are_settled() -> u8
+pub fn examples_are_settled()
     ensures { Settled }
 {
-    0
 }

@@ -1,5 +1,5 @@
 -- The front keeper: pairs offered one by one.
-use Rattle.std.specs.Prelude.{◌≡◌, ℕ, ◌<◌, ◌≤◌, Bool, true, false, T, ◌⊎◌, List, [], ◌∷◌, length, None, Ok, Err, Option, Result, ◌≢◌, nat_lt, slice_index_or}
+use Rattle.std.specs.Prelude.{◌≡◌, ℕ, ◌≤◌, Bool, true, false, cond, T, ◌⊎◌, List, [], ◌∷◌, length, Some, None, Ok, Err, Option, Result, ◌≢◌, nat_lt, slice_index_or}
 use Rattle.questions.specs.declared.denial.Denial.{Denial}
 use Rattle.questions.specs.declared.denial.Question.TheVariants.{KeeperSlot}
 use Rattle.questions.specs.Denials.{of_order}
@@ -29,12 +29,14 @@ pub record Placed {V : Type 0} (good : V → V → Bool) (d : ℕ) (x : V) (befo
   pub kept : (e : ℕ) (y : V) → (e ≢ d) → InSlot before e y → (d ≤ e → T (good x y) → ⊥) → InSlot after e y
   pub only : (e : ℕ) (y : V) → (e ≢ d) → InSlot after e y → InSlot before e y × (d ≤ e → T (good x y) → ⊥)
 
--- the slots from a on no longer hold what x is as good as; those below stay
-pub record Cleared {V : Type 0} (good : V → V → Bool) (a b : ℕ) (x : V) (before after : List (Option V)) : Type 0 where
-  pub below : (e : ℕ) → e < a → slice_index_or after e None ≡ slice_index_or before e None
-  pub above : (e : ℕ) → b ≤ e → slice_index_or after e None ≡ slice_index_or before e None
-  pub kept : (e : ℕ) (y : V) → a ≤ e → e < b → InSlot before e y → (T (good x y) → ⊥) → InSlot after e y
-  pub only : (e : ℕ) (y : V) → a ≤ e → e < b → InSlot after e y → InSlot before e y × (T (good x y) → ⊥)
+-- what is left of a slot where x is put beside it: nothing of a value that x is as good as
+abbrev pub left_beside : {V : Type 0} → (V → V → Bool) → V → Option V → Option V
+left_beside good x None = None
+left_beside good x (Some y) = cond (good x y) None (Some y)
+
+-- no slot holds what x is as good as, and the others stay
+abbrev pub Cleared : {V : Type 0} → (V → V → Bool) → V → List (Option V) → List (Option V) → Type 0
+Cleared good x before after = (e : ℕ) → slice_index_or after e None ≡ left_beside good x (slice_index_or before e None)
 
 module _ {V : Type 0} (as_good : V → V → Bool) (d : ℕ) (x : V) where
   abbrev pub OfferBy : Bool → List (Option V) → List (Option V) → Result (Unit {0}) Denial → Type 0

@@ -16,9 +16,7 @@ pub fn empty_slots<V: Ranking>(slots: &mut [Option<V>])
     ensures empty { (d : ℕ) → slice_index_or slots.new d None ≡ None }
     ensures front { Front V.good (Accepted []) slots.new }
 {
-    for slot in slots.iter_mut() {
-        *slot = None;
-    }
+    slots.fill(None);
 }
 
 // Is a slot of at most d grains as good as the value?
@@ -27,28 +25,17 @@ fn beaten<V: Ranking>(slots: &[Option<V>], d: usize, value: V) -> bool
     ensures yes { result ≡ true → Beaten V.good (InSlot slots.now) d value }
     ensures none { result ≡ false → Beaten V.good (InSlot slots.now) d value → ⊥ }
 {
-    for e in 0..d + 1 {
-        let held = slots[e];
-        if let Some(y) = held {
-            if y.as_good(value) {
-                return true;
-            }
-        }
-    }
-    false
+    slots[..=d]
+        .iter()
+        .any(|slot| slot.is_some_and(|held| held.as_good(value)))
 }
 
-// Empties each slot from a on whose value is no better.
-fn clear<V: Ranking>(slots: &mut [Option<V>], a: usize, value: V)
-    ensures { Cleared V.good a (length slots.old) value slots.old slots.new }
+// Empties each slot whose value is no better.
+fn clear<V: Ranking>(slots: &mut [Option<V>], value: V)
+    ensures { Cleared V.good value slots.old slots.new }
 {
-    for e in a..slots.len() {
-        let held = slots[e];
-        if let Some(y) = held {
-            if value.as_good(y) {
-                slots[e] = None;
-            }
-        }
+    for slot in slots.iter_mut() {
+        *slot = slot.filter(|held| !value.as_good(*held));
     }
 }
 
@@ -64,6 +51,6 @@ pub fn offer<V: Ranking>(slots: &mut [Option<V>], grains: Grains, value: V) -> R
         return Ok(());
     }
     slots[d] = Some(value);
-    clear(slots, d + 1, value);
+    clear(&mut slots[d + 1..], value);
     Ok(())
 }

@@ -1,5 +1,8 @@
-use Rattle.keeper.specs.Keepers.{Cleared}
+use Rattle.std.proofs.Common.{◌≡◌, ℕ, ◌<◌, ◌≤◌, get_or, None}
+use Rattle.keeper.specs.Keepers.{left_beside}
 use Rattle.keeper.proofs.clear.Given as goal
 
-abbrev pub invariant-loop-e : goal.invariant-loop-e
-invariant-loop-e g l = Cleared g.V.Ranking.good l.a l.e l.value l.initial.slots l.slots
+abbrev pub invariant-loop-slot : goal.invariant-loop-slot
+invariant-loop-slot g l =
+    ((k : ℕ) → k < l.slot-index → get_or l.slots k None ≡ left_beside g.V.Ranking.good l.value (get_or l.initial.slots k None))
+    × ((k : ℕ) → l.slot-index ≤ k → get_or l.slots k None ≡ get_or l.initial.slots k None)

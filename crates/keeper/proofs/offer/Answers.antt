@@ -1,5 +1,6 @@
-use Rattle.std.proofs.Common.{Bool, length, Some, Ok, sym, refl, subst, length-set}
+use Rattle.std.proofs.Common.{◌≡◌, ◌+◌, ◌-◌, Bool, length, set, Some, Ok, sym, refl, ◌∙◌, subst, arith}
 use Rattle.std.proofs.lemmas.Bool.{lt-ltb}
+use borrow.Rule.Slice.PartMut.{put_mid, mid_len}
 use Rattle.keeper.specs.Keepers.{OfferBy}
 use Rattle.keeper.proofs.SlotsCleared.{placed}
 use Rattle.keeper.proofs.FrontKept.{front_same, front_more}
@@ -21,8 +22,10 @@ returns g c =
     let d = c.args.grains.0 in
     let x = c.args.value in
     let before = c.args.slots.now in
-    let after = c.clear.new.slots in
-    let h = c.if-d-slots.false in
-    let p = placed good d x before after h (c.beaten.ensures.none c.if-beaten.false) c.clear.ensures (length-set before d (Some x)) in
-    subst (λ (b : Bool). OfferBy good d x b before after (Ok tt)) (sym (lt-ltb d (length before) h))
+    let within = c.if-d-slots.false in
+    let k = length (set before d (Some x)) - (d + 1) in
+    let after = put_mid (d + 1) k (set before d (Some x)) c.clear.new.slots in
+    let long : length c.clear.new.slots ≡ k = c.clear.auto.slots ∙ mid_len (d + 1) (length (set before d (Some x))) (set before d (Some x)) (omega arith) in
+    let p = placed good x d before c.clear.new.slots within long c.clear.ensures (c.beaten.ensures.none c.if-beaten.false) in
+    subst (λ (b : Bool). OfferBy good d x b before after (Ok tt)) (sym (lt-ltb d (length before) within))
     (refl, λ ps f. front_more good ranks ps d x before f after p)

@@ -1,4 +1,4 @@
-use Rattle.std.proofs.Common.{◌≡◌, length, vec_items, sym, refl, ap, ◌∙◌, subst}
+use Rattle.std.proofs.Common.{◌≡◌, length, vec_items, Some, sym, refl, ap, ◌∙◌, subst}
 use Rattle.std.specs.Vec.{with_items}
 use Rattle.std.proofs.lemmas.List.{with_items_is}
 use Rattle.segments.specs.Algebra.{algebra}
@@ -19,7 +19,7 @@ returns-in-Quote g c =
     let told = subst (λ a. QuoteCall net alg c.in-Quote.order room (vec_items step.list) a c.quote.result) (sym (with_items_is step.list c.quote.new.list kept)) called in
     record {
       kept = refl;
-      answers = subst (λ k. Answers alg room net k step (record { call = step.call; list = with_items step.list c.quote.new.list; slots = step.slots; reply = Quoted c.quote.result })) (sym c.in-Quote.is) (c.quote.result, refl, told, refl);
+      answers = subst (λ k. Answers alg room net k step (record { call = step.call; list = with_items step.list c.quote.new.list; slots = step.slots; reply = Some (Quoted c.quote.result) })) (sym c.in-Quote.is) (c.quote.result, refl, told, refl);
       leaves = ap (λ k. after net k) (sym c.in-Quote.is);
     }
 
@@ -35,6 +35,6 @@ returns-in-Front g c =
     let told = subst (λ a. FrontCall net alg c.in-Front.order room (vec_items step.slots) a c.front.result) (sym (with_items_is step.slots c.front.new.slots kept)) called in
     record {
       kept = refl;
-      answers = subst (λ k. Answers alg room net k step (record { call = step.call; list = step.list; slots = with_items step.slots c.front.new.slots; reply = Front c.front.result })) (sym c.in-Front.is) (c.front.result, refl, told, refl);
+      answers = subst (λ k. Answers alg room net k step (record { call = step.call; list = step.list; slots = with_items step.slots c.front.new.slots; reply = Some (Front c.front.result) })) (sym c.in-Front.is) (c.front.result, refl, told, refl);
       leaves = ap (λ k. after net k) (sym c.in-Front.is);
     }

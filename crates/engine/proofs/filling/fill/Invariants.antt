@@ -1,6 +1,0 @@
-use Rattle.segments.specs.Algebra.{algebra}
-use Rattle.engine.specs.Cells.{FilledTo}
-use Rattle.engine.proofs.filling.fill.Given as goal
-
-abbrev pub invariant-loop-l : goal.invariant-loop-l
-invariant-loop-l g l = FilledTo (g.M.Map.meaning l.map) (algebra g.V.Ranking.good g.V.Tariff.joining) l.search.grain.0 l.target l.search.n l.search.top l.l l.table

@@ -1,7 +1,0 @@
-use Rattle.segments.specs.Algebra.{algebra}
-use Rattle.engine.specs.Cells.{best_of}
-use Rattle.engine.proofs.ListRebuilt.{RebuiltTo}
-use Rattle.engine.proofs.rebuilding.rebuild.Given as goal
-
-abbrev pub invariant-loop-i : goal.invariant-loop-i
-invariant-loop-i g l = RebuiltTo (g.M.Map.meaning l.map) (algebra g.V.Ranking.good g.V.Tariff.joining) l.search.grain.0 l.search.top l.choice.0 (best_of l.search.n l.search.top l.table) l.choice.1.0 l.source l.choice.1.1.0 l.prefix l.d l.v l.i l.delay l.initial.list l.list
