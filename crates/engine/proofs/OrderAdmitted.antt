@@ -1,9 +1,8 @@
 -- What an order keeps whose questions are all answered yes.
-use Rattle.std.proofs.Common.{◌≡◌, ℕ, ◌+◌, ◌*◌, ◌<◌, ◌≤◌, ◌&&◌, ltb, leb, None, Result, sym, ap, ◌∙◌, subst, mul_assoc, mul_comm}
+use Rattle.std.proofs.Common.{◌≡◌, ℕ, ◌+◌, ◌*◌, ◌<◌, ◌≤◌, ◌&&◌, ltb, leb, None, Option, sym, ap, ◌∙◌, subst, mul_assoc, mul_comm}
 use Rattle.std.proofs.lemmas.Bool.{and_parts, ltb-true, leb-true}
 use Rattle.netmap.specs.Net.{Net}
 use Rattle.questions.specs.declared.denial.Denial.{Denial}
-use Rattle.questions.specs.Asking.{reply}
 use Rattle.questions.proofs.Asking.{all_yes}
 use Rattle.segments.specs.declared.order.Order.{Order}
 use Rattle.engine.specs.declared.checks.Room.{Room}
@@ -43,5 +42,5 @@ admitted net o room e =
     }
 
 -- what was asked of a room, asked of the lengths of the slices
-pub asked_of : (net : Net) (o : Order) (a b : Room) (r : Result (Unit {0}) Denial) → a ≡ b → r ≡ reply (order_denial net o a) tt → r ≡ reply (order_denial net o b) tt
-asked_of net o a b r is e = e ∙ ap (λ k. reply (order_denial net o k) tt) is
+pub asked_of : (net : Net) (o : Order) (a b : Room) (d : Option Denial) → a ≡ b → order_denial net o a ≡ d → order_denial net o b ≡ d
+asked_of net o a b d is e = ap (order_denial net o) (sym is) ∙ e

@@ -52,11 +52,11 @@ front_denial net o room slots = first_no (order_questions net o room ++ of_one o
 
 -- what the three working slices hold
 pub record Working (V : Type 0) : Type 0 where
-  pub dist : List ℕ
-  pub spread : List (Spread V)
+  pub dist : List (Option ℕ)
+  pub spread : List (Option (Spread V))
   pub table : List (Option V)
 
-abbrev pub working : {V : Type 0} → List ℕ → List (Spread V) → List (Option V) → Working V
+abbrev pub working : {V : Type 0} → List (Option ℕ) → List (Option (Spread V)) → List (Option V) → Working V
 working dist spread table = record { dist = dist; spread = spread; table = table }
 
 -- every denial leaves the working slices as they were

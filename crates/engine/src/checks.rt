@@ -1,17 +1,14 @@
 // The questions that a quote and a front both ask of an order.
-ghost use Rattle.std.specs.Prelude.{◌≡◌, ◌+◌, ◌*◌, ◌≤◌, ◌&&◌, nat_le};
-ghost use Rattle.questions.specs.Asking.{reply};
+ghost use Rattle.std.specs.Prelude.{◌≡◌, ◌+◌, ◌*◌, ◌≤◌, ◌&&◌, nat_le, Some, None, MatchResult};
 ghost use Rattle.engine.specs.Calls.{room_of, order_denial};
 ghost use Rattle.engine.specs.Fronts.{most_grains_of};
 
-use netmap::{Map, Microseconds};
-use questions::{Denial, Question};
-use segments::{Labels, Order, Spread};
+use netmap::Map;
+use questions::{Denial, Layer, Question};
+use segments::{Grain, Labels, Order, Spread};
 use tariff::Tariff;
 
 const MAX_LIMIT: Labels = Labels(10);
-
-const MAX_GRAIN: Microseconds = Microseconds(10_000);
 
 const MAX_GRAINS: usize = 1000;
 
@@ -24,7 +21,11 @@ pub struct Room {
 }
 
 impl Room {
-    pub(crate) fn of<V: Tariff>(dist: &[u32], spread: &[Spread<V>], table: &[Option<V>]) -> Room
+    pub(crate) fn of<V: Tariff>(
+        dist: &[Option<u32>],
+        spread: &[Option<Spread<V>>],
+        table: &[Option<V>],
+    ) -> Room
         ensures { result ≡ room_of dist.now spread.now table.now }
     {
         Room {
@@ -45,34 +46,35 @@ impl Room {
     }
 }
 
-// The largest number of grains within the order's bound.
-pub(crate) fn most_grains(order: Order) -> usize
-    requires { 1 ≤ order.grain.0 }
-    ensures { result ≡ most_grains_of order }
-{
-    (order.bound.0 / order.grain.0) as usize
+// What an order comes to once its questions are answered yes: its grain, and the largest number of grains within its bound.
+#[derive(Clone, Copy)]
+pub(crate) struct Terms {
+    pub grain: Grain,
+    pub top: usize,
 }
 
 // Asks of the nodes, the label limit, the grain, the bound and the working slices.
-pub(crate) fn check_order<M: Map>(map: &M, order: Order, room: Room) -> Result<(), Denial>
-    ensures { result ≡ reply (order_denial (M.meaning map.now) order room) tt }
+pub(crate) fn check_order<M: Map>(map: &M, order: Order, room: Room) -> Result<Terms, Denial>
+    ensures { MatchResult result
+        (λ t. (order_denial (M.meaning map.now) order room ≡ None) × (t.grain.length ≡ order.grain) × (t.top ≡ most_grains_of order))
+        (λ d. order_denial (M.meaning map.now) order room ≡ Some d) }
 {
     let n = map.nodes();
-    if usize::from(order.source) >= n || usize::from(order.target) >= n {
-        return Err(Denial::of_order(Question::OrderNodes, order.index));
+    if order.source as usize >= n || order.target as usize >= n {
+        return Err(Denial::new(Question::OrderNodes, Layer::Order, order.index));
     }
     if order.limit.0 < 1 || order.limit.0 > MAX_LIMIT.0 {
-        return Err(Denial::of_order(Question::LabelLimit, order.index));
+        return Err(Denial::new(Question::LabelLimit, Layer::Order, order.index));
     }
-    if order.grain.0 < 1 || order.grain.0 > MAX_GRAIN.0 {
-        return Err(Denial::of_order(Question::GrainRange, order.index));
-    }
-    let top = most_grains(order);
+    let Some(grain) = Grain::new(order.grain) else {
+        return Err(Denial::new(Question::GrainRange, Layer::Order, order.index));
+    };
+    let top = (order.bound.0 / grain.length.0) as usize;
     if top > MAX_GRAINS {
-        return Err(Denial::of_order(Question::BoundGrains, order.index));
+        return Err(Denial::new(Question::BoundGrains, Layer::Order, order.index));
     }
-    if !room.holds(n, usize::from(order.limit.0), top) {
-        return Err(Denial::of_order(Question::WorkingSpace, order.index));
+    if !room.holds(n, order.limit.0 as usize, top) {
+        return Err(Denial::new(Question::WorkingSpace, Layer::Order, order.index));
     }
-    Ok(())
+    Ok(Terms { grain, top })
 }

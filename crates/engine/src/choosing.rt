@@ -5,6 +5,7 @@ ghost use Rattle.engine.specs.Cells.{cells_at};
 ghost use Rattle.engine.specs.Chosen.{LeadOf, Passed, Whole, lead_of};
 
 use crate::cells::SourceCells;
+use netmap::Map;
 use tariff::Tariff;
 
 // A cell at the source.
@@ -25,12 +26,12 @@ fn lead<V: Tariff>(best: Option<Choice<V>>, next: Choice<V>) -> Choice<V>
     }
 }
 
-impl<V: Tariff> SourceCells<'_, '_, V> {
+impl<M: Map, V: Tariff> SourceCells<'_, '_, M, V> {
     // Goes on with the cells of d grains at the source.
     fn choose_at(&self, d: usize, best: Option<Choice<V>>) -> Option<Choice<V>>
         requires grains { d ≤ self.now.search.top }
-        requires lead { LeadOf (algebra V.good V.joining) (cells_at self.now.search.n self.now.search.top self.now.table.now self.now.source) (Passed self.now.limit d 0) best }
-        ensures { LeadOf (algebra V.good V.joining) (cells_at self.now.search.n self.now.search.top self.now.table.now self.now.source) (Passed self.now.limit (d + 1) 0) result }
+        requires lead { LeadOf (algebra V.good V.joining) (cells_at self.now.search.routes.nodes self.now.search.top self.now.table.now self.now.source) (Passed self.now.limit d 0) best }
+        ensures { LeadOf (algebra V.good V.joining) (cells_at self.now.search.routes.nodes self.now.search.top self.now.table.now self.now.source) (Passed self.now.limit (d + 1) 0) result }
     {
         let mut first = best;
         for l in 0..self.limit + 1 {
@@ -50,7 +51,7 @@ impl<V: Tariff> SourceCells<'_, '_, V> {
 
     // The cell at the source of the best value, then of the fewest grains, then of the fewest entries.
     pub(crate) fn choose(&self) -> Option<Choice<V>>
-        ensures { LeadOf (algebra V.good V.joining) (cells_at self.now.search.n self.now.search.top self.now.table.now self.now.source) (Whole self.now.limit self.now.search.top) result }
+        ensures { LeadOf (algebra V.good V.joining) (cells_at self.now.search.routes.nodes self.now.search.top self.now.table.now self.now.source) (Whole self.now.limit self.now.search.top) result }
     {
         let mut best = None;
         for d in 0..self.search.top + 1 {

@@ -7,7 +7,6 @@ ghost use Rattle.engine.specs.Hops.{HopOf};
 use crate::search::Search;
 use netmap::Map;
 use segments::Leg;
-use segments::entry::entry;
 use segments::units::round_up;
 use tariff::Tariff;
 
@@ -21,14 +20,14 @@ pub(crate) struct Hop<V> {
     pub grains: usize,
 }
 
-impl<V: Tariff> Search<'_, V> {
+impl<M: Map, V: Tariff> Search<'_, M, V> {
     // What a code does at a node, if it is legal there.
-    pub(crate) fn hop<M: Map>(&self, map: &M, v: usize, code: u16) -> Option<Hop<V>>
-        requires routed { Routed (M.meaning map.now) (algebra V.good V.joining) self.now.n self.now.dist.now self.now.spread.now }
-        requires node { v < self.now.n }
-        ensures { HopOf (M.meaning map.now) (algebra V.good V.joining) self.now.grain.0 v code result }
+    pub(crate) fn hop(&self, v: usize, code: u16) -> Option<Hop<V>>
+        requires routed { Routed (M.meaning self.now.routes.map.now) (algebra V.good V.joining) self.now.routes.nodes self.now.routes.spread.now }
+        requires node { v < self.now.routes.nodes }
+        ensures { HopOf (M.meaning self.now.routes.map.now) (algebra V.good V.joining) self.now.grain.length.0 v code result }
     {
-        let leg = entry(map, self.n, self.dist, self.spread, v, code)?;
+        let leg = self.routes.entry(v, code)?;
         let grains = round_up(leg.delay, self.grain).0 as usize;
         Some(Hop { leg, grains })
     }

@@ -8,22 +8,21 @@ ghost use Rattle.engine.specs.Fronts.{held as held_count};
 ghost use Rattle.engine.specs.Offers.{Gathered};
 
 use crate::cells::SourceCells;
-use crate::checks::{Room, check_order, most_grains};
+use crate::checks::{Room, check_order};
 use crate::search::Search;
 use keeper::{empty_slots, offer};
 use netmap::Map;
-use questions::{Denial, Question};
-use segments::routing::route;
-use segments::{Grains, Order, Spread};
+use questions::{Denial, Layer, Question};
+use segments::{Grains, Order, Routes, Spread, route};
 use tariff::{Ranking, Tariff};
 
-impl<V: Ranking> SourceCells<'_, '_, V> {
+impl<M, V: Ranking> SourceCells<'_, '_, M, V> {
     // Offers the cells of d grains at the source to the front.
     fn offer_column(&self, d: usize, slots: &mut [Option<V>])
         requires grains { d ≤ self.now.search.top }
         requires long { length slots.old ≡ self.now.search.top + 1 }
-        requires gathered { Gathered V.good (cells_at self.now.search.n self.now.search.top self.now.table.now self.now.source) (Passed self.now.limit d 0) slots.old }
-        ensures { Gathered V.good (cells_at self.now.search.n self.now.search.top self.now.table.now self.now.source) (Passed self.now.limit (d + 1) 0) slots.new }
+        requires gathered { Gathered V.good (cells_at self.now.search.routes.nodes self.now.search.top self.now.table.now self.now.source) (Passed self.now.limit d 0) slots.old }
+        ensures { Gathered V.good (cells_at self.now.search.routes.nodes self.now.search.top self.now.table.now self.now.source) (Passed self.now.limit (d + 1) 0) slots.new }
     {
         for l in 0..self.limit + 1 {
             if let Some(value) = self.read(l, self.source, d) {
@@ -35,7 +34,7 @@ impl<V: Ranking> SourceCells<'_, '_, V> {
     // Leaves in the slots the front of all cells at the source.
     fn gather(&self, slots: &mut [Option<V>])
         requires { length slots.old ≡ self.now.search.top + 1 }
-        ensures { Gathered V.good (cells_at self.now.search.n self.now.search.top self.now.table.now self.now.source) (Whole self.now.limit self.now.search.top) slots.new }
+        ensures { Gathered V.good (cells_at self.now.search.routes.nodes self.now.search.top self.now.table.now self.now.source) (Whole self.now.limit self.now.search.top) slots.new }
     {
         empty_slots(slots);
         for d in 0..self.search.top + 1 {
@@ -55,39 +54,34 @@ fn count_held<V: Ranking>(slots: &[Option<V>]) -> usize
 pub fn front<M: Map, V: Tariff>(
     map: &M,
     order: Order,
-    dist: &mut [u32],
-    spread: &mut [Spread<V>],
+    dist: &mut [Option<u32>],
+    spread: &mut [Option<Spread<V>>],
     table: &mut [Option<V>],
     slots: &mut [Option<V>],
 ) -> Result<usize, Denial>
     ensures call { FrontCall (M.meaning map.now) (algebra V.good V.joining) order (room_of dist.old spread.old table.old) slots.old slots.new result }
     ensures slices { Untouched result (working dist.old spread.old table.old) (working dist.new spread.new table.new) }
 {
-    check_order(map, order, Room::of(dist, spread, table))?;
-    let top = most_grains(order);
-    if slots.len() < top + 1 {
-        return Err(Denial::of_order(Question::FrontSpace, order.index));
+    let terms = check_order(map, order, Room::of(dist, spread, table))?;
+    if slots.len() < terms.top + 1 {
+        return Err(Denial::new(Question::FrontSpace, Layer::Order, order.index));
     }
-    let n = map.nodes();
-    let limit = usize::from(order.limit.0);
-    let source = usize::from(order.source);
-    let target = usize::from(order.target);
-    route(map, n, dist, spread);
+    let nodes = map.nodes();
+    let limit = order.limit.0 as usize;
+    route(map, nodes, dist, spread);
     let search = Search {
-        n,
-        dist,
-        spread,
-        grain: order.grain,
-        top,
+        routes: Routes { map, nodes, spread },
+        grain: terms.grain,
+        top: terms.top,
     };
-    search.fill(map, limit, target, table);
+    search.fill(limit, order.target as usize, table);
     let cells = SourceCells {
         search,
         table,
         limit,
-        source,
+        source: order.source as usize,
     };
-    let part = &mut slots[..top + 1];
+    let part = &mut slots[..terms.top + 1];
     cells.gather(part);
     Ok(count_held(part))
 }

@@ -29,16 +29,16 @@ pub(crate) struct Found<V> {
     pub rest: usize,
 }
 
-impl<V: Tariff> SourceCells<'_, '_, V> {
+impl<M: Map, V: Tariff> SourceCells<'_, '_, M, V> {
     // Whether a code still attains the total after a prefix.
-    fn try_code<M: Map>(&self, map: &M, prefix: Prefix<V>, total: V, code: u16) -> Option<Found<V>>
-        requires routed { Routed (M.meaning map.now) (algebra V.good V.joining) self.now.search.n self.now.search.dist.now self.now.search.spread.now }
+    fn try_code(&self, prefix: Prefix<V>, total: V, code: u16) -> Option<Found<V>>
+        requires routed { Routed (M.meaning self.now.search.routes.map.now) (algebra V.good V.joining) self.now.search.routes.nodes self.now.search.routes.spread.now }
         requires labels { prefix.left ≤ self.now.limit }
-        requires node { prefix.end < self.now.search.n }
+        requires node { prefix.end < self.now.search.routes.nodes }
         requires grains { prefix.grains ≤ self.now.search.top }
-        ensures { TriedCode (M.meaning map.now) (algebra V.good V.joining) self.now.search.grain.0 total (best_of self.now.search.n self.now.search.top self.now.table.now prefix.left) prefix.value prefix.grains prefix.end code result }
+        ensures { TriedCode (M.meaning self.now.search.routes.map.now) (algebra V.good V.joining) self.now.search.grain.length.0 total (best_of self.now.search.routes.nodes self.now.search.top self.now.table.now prefix.left) prefix.value prefix.grains prefix.end code result }
     {
-        let Hop { leg, grains } = self.search.hop(map, prefix.end, code)?;
+        let Hop { leg, grains } = self.search.hop(prefix.end, code)?;
         let rest = prefix.grains.checked_sub(grains)?;
         let suffix = self.read(prefix.left, usize::from(leg.to), rest)?;
         let whole = prefix.value.join(leg.value).join(suffix);
@@ -50,16 +50,16 @@ impl<V: Tariff> SourceCells<'_, '_, V> {
     }
 
     // The smallest code that still attains the total.
-    fn seek<M: Map>(&self, map: &M, prefix: Prefix<V>, total: V) -> Found<V>
-        requires routed { Routed (M.meaning map.now) (algebra V.good V.joining) self.now.search.n self.now.search.dist.now self.now.search.spread.now }
+    fn seek(&self, prefix: Prefix<V>, total: V) -> Found<V>
+        requires routed { Routed (M.meaning self.now.search.routes.map.now) (algebra V.good V.joining) self.now.search.routes.nodes self.now.search.routes.spread.now }
         requires labels { prefix.left ≤ self.now.limit }
-        requires node { prefix.end < self.now.search.n }
+        requires node { prefix.end < self.now.search.routes.nodes }
         requires grains { prefix.grains ≤ self.now.search.top }
-        requires some { (c : ℕ) × Attains (M.meaning map.now) (algebra V.good V.joining) self.now.search.grain.0 total (best_of self.now.search.n self.now.search.top self.now.table.now prefix.left) prefix.value prefix.grains prefix.end c }
-        ensures { FoundAt (M.meaning map.now) (algebra V.good V.joining) self.now.search.grain.0 total (best_of self.now.search.n self.now.search.top self.now.table.now prefix.left) prefix.value prefix.grains prefix.end result }
+        requires some { (c : ℕ) × Attains (M.meaning self.now.search.routes.map.now) (algebra V.good V.joining) self.now.search.grain.length.0 total (best_of self.now.search.routes.nodes self.now.search.top self.now.table.now prefix.left) prefix.value prefix.grains prefix.end c }
+        ensures { FoundAt (M.meaning self.now.search.routes.map.now) (algebra V.good V.joining) self.now.search.grain.length.0 total (best_of self.now.search.routes.nodes self.now.search.top self.now.table.now prefix.left) prefix.value prefix.grains prefix.end result }
     {
         for code in 0..CODES {
-            if let Some(found) = self.try_code(map, prefix, total, code) {
+            if let Some(found) = self.try_code(prefix, total, code) {
                 return found;
             }
         }
@@ -67,14 +67,14 @@ impl<V: Tariff> SourceCells<'_, '_, V> {
     }
 
     // Writes the list of the chosen cell, at each entry the smallest code that attains its value, and gives its delay.
-    pub(crate) fn rebuild<M: Map>(&self, map: &M, choice: Choice<V>, list: &mut [u16]) -> u32
-        requires routed { Routed (M.meaning map.now) (algebra V.good V.joining) self.now.search.n self.now.search.dist.now self.now.search.spread.now }
+    pub(crate) fn rebuild(&self, choice: Choice<V>, list: &mut [u16]) -> u32
+        requires routed { Routed (M.meaning self.now.search.routes.map.now) (algebra V.good V.joining) self.now.search.routes.nodes self.now.search.routes.spread.now }
         requires labels { choice.entries ≤ self.now.limit }
         requires few { choice.grains ≤ self.now.search.top }
         requires space { choice.entries ≤ length list.old }
-        requires filled { (target : ℕ) × FilledTo (M.meaning map.now) (algebra V.good V.joining) self.now.search.grain.0 target self.now.search.n self.now.search.top choice.entries self.now.table.now }
-        requires cell { best_of self.now.search.n self.now.search.top self.now.table.now choice.entries choice.grains self.now.source ≡ Some choice.value }
-        ensures { Written (M.meaning map.now) (algebra V.good V.joining) self.now.search.grain.0 choice.value (best_of self.now.search.n self.now.search.top self.now.table.now) choice.grains self.now.source choice.entries result list.old list.new }
+        requires filled { (target : ℕ) × FilledTo (M.meaning self.now.search.routes.map.now) (algebra V.good V.joining) self.now.search.grain.length.0 target self.now.search.routes.nodes self.now.search.top choice.entries self.now.table.now }
+        requires cell { best_of self.now.search.routes.nodes self.now.search.top self.now.table.now choice.entries choice.grains self.now.source ≡ Some choice.value }
+        ensures { Written (M.meaning self.now.search.routes.map.now) (algebra V.good V.joining) self.now.search.grain.length.0 choice.value (best_of self.now.search.routes.nodes self.now.search.top self.now.table.now) choice.grains self.now.source choice.entries result list.old list.new }
     {
         let mut v = self.source;
         let mut d = choice.grains;
@@ -87,7 +87,7 @@ impl<V: Tariff> SourceCells<'_, '_, V> {
                 grains: d,
                 left: choice.entries - 1 - i,
             };
-            let found = self.seek(map, rest, choice.value);
+            let found = self.seek(rest, choice.value);
             list[i] = found.code;
             v = usize::from(found.leg.to);
             d = found.rest;

@@ -39,8 +39,8 @@ pub struct Step<V> {
 fn perform<M: Map, V: Tariff>(
     map: &mut M,
     step: &mut Step<V>,
-    dist: &mut [u32],
-    spread: &mut [Spread<V>],
+    dist: &mut [Option<u32>],
+    spread: &mut [Option<Spread<V>>],
     table: &mut [Option<V>],
 )
     ensures kept { step.new.call ≡ step.old.call }
@@ -81,8 +81,8 @@ fn perform<M: Map, V: Tariff>(
 pub fn run<M: Map, V: Tariff>(
     map: &mut M,
     steps: &mut [Step<V>],
-    dist: &mut [u32],
-    spread: &mut [Spread<V>],
+    dist: &mut [Option<u32>],
+    spread: &mut [Option<Spread<V>>],
     table: &mut [Option<V>],
 )
     ensures { Runs (algebra V.good V.joining) (room_of dist.old spread.old table.old) (M.meaning map.old) steps.old steps.new (M.meaning map.new) }

@@ -2,30 +2,26 @@
 ghost use Rattle.std.specs.Prelude.{◌≡◌, ◌<◌, ◌≤◌};
 ghost use Rattle.engine.specs.Cells.{slot};
 
-use netmap::Microseconds;
-use segments::Spread;
+use segments::{Grain, Routes};
 
-// The routes of n nodes, the length of a grain, and the largest number of grains.
+// The routes of a map, the length of a grain, and the largest number of grains.
 #[derive(Drop)]
-pub(crate) struct Search<'a, V> {
-    pub n: usize,
-    pub dist: &'a [u32],
-    pub spread: &'a [Spread<V>],
-    pub grain: Microseconds,
+pub(crate) struct Search<'a, M, V> {
+    pub routes: Routes<'a, M, V>,
+    pub grain: Grain,
     pub top: usize,
-    ghost few: { n ≤ 64 },
-    ghost fine: { 1 ≤ grain.0 },
+    ghost few: { routes.nodes ≤ 64 },
     ghost short: { top ≤ 1000 },
 }
 
-impl<V> Search<'_, V> {
+impl<M, V> Search<'_, M, V> {
     // Where the cell of l entries at the node v with d grains lies in the table: rows of 0 to top grains.
     pub(crate) fn place(&self, l: usize, v: usize, d: usize) -> usize
         requires labels { l ≤ 10 }
-        requires node { v < self.now.n }
+        requires node { v < self.now.routes.nodes }
         requires grains { d ≤ self.now.top }
-        ensures { result ≡ slot self.now.n self.now.top l v d }
+        ensures { result ≡ slot self.now.routes.nodes self.now.top l v d }
     {
-        (l * self.n + v) * (self.top + 1) + d
+        (l * self.routes.nodes + v) * (self.top + 1) + d
     }
 }

@@ -5,7 +5,7 @@ ghost use Rattle.std.specs.Prelude.{◌≡◌, ℕ, ◌<◌, true, false, [], le
 ghost use Rattle.keeper.specs.Fronts.{InSlot, Front};
 ghost use Rattle.keeper.specs.Keepers.{Accepted, OfferCall, Beaten, Cleared};
 
-use questions::{Denial, Question};
+use questions::{Denial, Layer, Question};
 use segments::Grains;
 use tariff::Ranking;
 
@@ -45,7 +45,7 @@ pub fn offer<V: Ranking>(slots: &mut [Option<V>], grains: Grains, value: V) -> R
 {
     let d = grains.0 as usize;
     if d >= slots.len() {
-        return Err(Denial::of_order(Question::KeeperSlot, 0));
+        return Err(Denial::new(Question::KeeperSlot, Layer::Order, 0));
     }
     if beaten(slots, d, value) {
         return Ok(());

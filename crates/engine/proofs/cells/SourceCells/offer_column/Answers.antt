@@ -12,7 +12,7 @@ read-requires g c = record { labels = omega (arith, c.loop-l-test.true); node = 
 pub loop-l-preserved : goal.loop-l-preserved
 loop-l-preserved g c =
     let good = g.V.Ranking.good in
-    let best : ℕ → ℕ → _ = λ m e. best_of c.args.self.now.search.n c.args.self.now.search.top c.args.self.now.table.now m e c.args.self.now.source in
+    let best : ℕ → ℕ → _ = λ m e. best_of c.args.self.now.search.routes.nodes c.args.self.now.search.top c.args.self.now.table.now m e c.args.self.now.source in
     let limit = c.args.self.now.limit in
     let d = c.args.d in
     let l = c.loop-l.l in
@@ -26,4 +26,4 @@ loop-l-preserved g c =
     ]
 
 pub returns : goal.returns
-returns g c = gather_next g.V.Ranking.good (λ m e. best_of c.args.self.now.search.n c.args.self.now.search.top c.args.self.now.table.now m e c.args.self.now.source) c.args.self.now.limit c.args.d c.loop-l.l c.loop-l.slots (omega (arith, c.loop-l-test.false)) c.loop-l.invariant
+returns g c = gather_next g.V.Ranking.good (λ m e. best_of c.args.self.now.search.routes.nodes c.args.self.now.search.top c.args.self.now.table.now m e c.args.self.now.source) c.args.self.now.limit c.args.d c.loop-l.l c.loop-l.slots (omega (arith, c.loop-l-test.false)) c.loop-l.invariant

@@ -8,12 +8,12 @@ use Rattle.engine.proofs.cells.SourceCells.try_code.Goals.{else-as_good-via-then
 
 pub returns-in_err-leg : goal.returns-in_err-leg
 returns-in_err-leg g c =
-    let net = g.M.Map.meaning c.args.map.now in
+    let net = g.M.Map.meaning c.args.self.now.search.routes.map.now in
     let alg = algebra g.V.Ranking.good g.V.Tariff.joining in
     let lawful = laws g.V.Ranking.good g.V.Tariff.joining g.met.V.Ranking.ranks g.met.V.Tariff.joins in
-    let grain = c.args.self.now.search.grain.0 in
+    let grain = c.args.self.now.search.grain.length.0 in
     let total = c.args.total in
-    let row = best_of c.args.self.now.search.n c.args.self.now.search.top c.args.self.now.table.now c.args.prefix.left in
+    let row = best_of c.args.self.now.search.routes.nodes c.args.self.now.search.top c.args.self.now.table.now c.args.prefix.left in
     let p = c.args.prefix.value in
     let d = c.args.prefix.grains in
     let v = c.args.prefix.end in
@@ -22,12 +22,12 @@ returns-in_err-leg g c =
 
 pub returns-in_err-rest : goal.returns-in_err-rest
 returns-in_err-rest g c =
-    let net = g.M.Map.meaning c.args.map.now in
+    let net = g.M.Map.meaning c.args.self.now.search.routes.map.now in
     let alg = algebra g.V.Ranking.good g.V.Tariff.joining in
     let lawful = laws g.V.Ranking.good g.V.Tariff.joining g.met.V.Ranking.ranks g.met.V.Tariff.joins in
-    let grain = c.args.self.now.search.grain.0 in
+    let grain = c.args.self.now.search.grain.length.0 in
     let total = c.args.total in
-    let row = best_of c.args.self.now.search.n c.args.self.now.search.top c.args.self.now.table.now c.args.prefix.left in
+    let row = best_of c.args.self.now.search.routes.nodes c.args.self.now.search.top c.args.self.now.table.now c.args.prefix.left in
     let p = c.args.prefix.value in
     let d = c.args.prefix.grains in
     let v = c.args.prefix.end in
@@ -36,12 +36,12 @@ returns-in_err-rest g c =
 
 pub returns-in_err-suffix : goal.returns-in_err-suffix
 returns-in_err-suffix g c =
-    let net = g.M.Map.meaning c.args.map.now in
+    let net = g.M.Map.meaning c.args.self.now.search.routes.map.now in
     let alg = algebra g.V.Ranking.good g.V.Tariff.joining in
     let lawful = laws g.V.Ranking.good g.V.Tariff.joining g.met.V.Ranking.ranks g.met.V.Tariff.joins in
-    let grain = c.args.self.now.search.grain.0 in
+    let grain = c.args.self.now.search.grain.length.0 in
     let total = c.args.total in
-    let row = best_of c.args.self.now.search.n c.args.self.now.search.top c.args.self.now.table.now c.args.prefix.left in
+    let row = best_of c.args.self.now.search.routes.nodes c.args.self.now.search.top c.args.self.now.table.now c.args.prefix.left in
     let p = c.args.prefix.value in
     let d = c.args.prefix.grains in
     let v = c.args.prefix.end in
@@ -54,12 +54,12 @@ returns-in_err-suffix g c =
 
 pub returns-then-as_good-2 : goal.returns-then-as_good-2
 returns-then-as_good-2 g c =
-    let net = g.M.Map.meaning c.args.map.now in
+    let net = g.M.Map.meaning c.args.self.now.search.routes.map.now in
     let alg = algebra g.V.Ranking.good g.V.Tariff.joining in
     let lawful = laws g.V.Ranking.good g.V.Tariff.joining g.met.V.Ranking.ranks g.met.V.Tariff.joins in
-    let grain = c.args.self.now.search.grain.0 in
+    let grain = c.args.self.now.search.grain.length.0 in
     let total = c.args.total in
-    let row = best_of c.args.self.now.search.n c.args.self.now.search.top c.args.self.now.table.now c.args.prefix.left in
+    let row = best_of c.args.self.now.search.routes.nodes c.args.self.now.search.top c.args.self.now.table.now c.args.prefix.left in
     let p = c.args.prefix.value in
     let d = c.args.prefix.grains in
     let v = c.args.prefix.end in
@@ -75,12 +75,12 @@ returns-then-as_good-2 g c =
 
 pub returns-else-as_good : goal.returns-else-as_good
 returns-else-as_good g c =
-    let net = g.M.Map.meaning c.args.map.now in
+    let net = g.M.Map.meaning c.args.self.now.search.routes.map.now in
     let alg = algebra g.V.Ranking.good g.V.Tariff.joining in
     let lawful = laws g.V.Ranking.good g.V.Tariff.joining g.met.V.Ranking.ranks g.met.V.Tariff.joins in
-    let grain = c.args.self.now.search.grain.0 in
+    let grain = c.args.self.now.search.grain.length.0 in
     let total = c.args.total in
-    let row = best_of c.args.self.now.search.n c.args.self.now.search.top c.args.self.now.table.now c.args.prefix.left in
+    let row = best_of c.args.self.now.search.routes.nodes c.args.self.now.search.top c.args.self.now.table.now c.args.prefix.left in
     let p = c.args.prefix.value in
     let d = c.args.prefix.grains in
     let v = c.args.prefix.end in

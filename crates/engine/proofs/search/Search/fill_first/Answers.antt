@@ -7,7 +7,7 @@ use Rattle.engine.proofs.search.Search.fill_first.Goals as goal
 
 pub offset_bounds-table-place : goal.offset_bounds-table-place
 offset_bounds-table-place g c =
-    let n = c.args.self.now.n in
+    let n = c.args.self.now.routes.nodes in
     let top = c.args.self.now.top in
     let t = c.args.target in
     let h : c.place.result < length c.args.table.now = omega (arith, c.place.ensures, first_within n top t c.requires.node, c.requires.room) in
@@ -15,7 +15,7 @@ offset_bounds-table-place g c =
 
 pub returns : goal.returns
 returns g c =
-    let n = c.args.self.now.n in
+    let n = c.args.self.now.routes.nodes in
     let top = c.args.self.now.top in
     let t = c.args.target in
     let k = n * (top + 1) in

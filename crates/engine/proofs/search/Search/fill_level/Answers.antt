@@ -7,11 +7,11 @@ use Rattle.engine.proofs.LevelsFilled.{level_start, level_more}
 use Rattle.engine.proofs.search.Search.fill_level.Goals as goal
 
 pub loop-v-init : goal.loop-v-init
-loop-v-init g c = level_start (g.M.Map.meaning c.args.map.now) (algebra g.V.Ranking.good g.V.Tariff.joining) c.args.self.now.grain.0 c.args.self.now.n c.args.self.now.top c.args.l c.args.table.now
+loop-v-init g c = level_start (g.M.Map.meaning c.args.self.now.routes.map.now) (algebra g.V.Ranking.good g.V.Tariff.joining) c.args.self.now.grain.length.0 c.args.self.now.routes.nodes c.args.self.now.top c.args.l c.args.table.now
 
 pub slice_bounds-fill_row-end : goal.slice_bounds-fill_row-end
 slice_bounds-fill_row-end g c =
-    let n = c.args.self.now.n in
+    let n = c.args.self.now.routes.nodes in
     let top = c.args.self.now.top in
     let l = c.args.l in
     let v = c.loop-v.v in
@@ -19,7 +19,7 @@ slice_bounds-fill_row-end g c =
 
 pub slice_bounds-fill_row-end-in-loop-v : goal.slice_bounds-fill_row-end-in-loop-v
 slice_bounds-fill_row-end-in-loop-v g c =
-    let n = c.args.self.now.n in
+    let n = c.args.self.now.routes.nodes in
     let top = c.args.self.now.top in
     let l = c.args.l in
     let v = c.loop-v.v in
@@ -28,7 +28,7 @@ slice_bounds-fill_row-end-in-loop-v g c =
 
 pub fill_row-requires : goal.fill_row-requires
 fill_row-requires g c =
-    let n = c.args.self.now.n in
+    let n = c.args.self.now.routes.nodes in
     let top = c.args.self.now.top in
     let l = c.args.l in
     let v = c.loop-v.v in
@@ -43,17 +43,17 @@ fill_row-requires g c =
 
 pub loop-v-preserved : goal.loop-v-preserved
 loop-v-preserved g c =
-    let n = c.args.self.now.n in
+    let n = c.args.self.now.routes.nodes in
     let top = c.args.self.now.top in
     let l = c.args.l in
     let v = c.loop-v.v in
     let room : top + 1 ≤ length c.split_at_mut-below.result.1.now = omega (arith, c.place.ensures, slot_end n top (l + 1) v top (l + 2) (omega arith) c.loop-v-test.true (omega arith), c.requires.room, c.loop-v.auto.table, c.split_at_mut-below.ensures.back_len) in
     let parts = c.split_at_mut-below.result in
     let cut : length c.fill_row.new.row ≡ top + 1 = c.fill_row.auto.row ∙ length-take-le (top + 1) parts.1.now room in
-    level_more (g.M.Map.meaning c.args.map.now) (algebra g.V.Ranking.good g.V.Tariff.joining) c.args.self.now.grain.0 n top l v c.place.result c.args.table.now c.loop-v.table parts.0.now c.fill_row.new.row (drop (top + 1) parts.1.now)
-    c.requires.routed.measured.nodes c.place.ensures c.split_at_mut-below.ensures.front c.split_at_mut-below.ensures.front_len cut c.loop-v.invariant c.fill_row.ensures
+    level_more (g.M.Map.meaning c.args.self.now.routes.map.now) (algebra g.V.Ranking.good g.V.Tariff.joining) c.args.self.now.grain.length.0 n top l v c.place.result c.args.table.now c.loop-v.table parts.0.now c.fill_row.new.row (drop (top + 1) parts.1.now)
+    c.requires.routed.nodes c.place.ensures c.split_at_mut-below.ensures.front c.split_at_mut-below.ensures.front_len cut c.loop-v.invariant c.fill_row.ensures
 
 pub returns : goal.returns
 returns g c =
-    let e : c.loop-v.v ≡ c.args.self.now.n = omega (arith, c.loop-v-test.false, c.loop-v.auto.v-end) in
-    subst (λ v. LevelTo (g.M.Map.meaning c.args.map.now) (algebra g.V.Ranking.good g.V.Tariff.joining) c.args.self.now.grain.0 c.args.self.now.n c.args.self.now.top c.args.l v c.args.table.now c.loop-v.table) e c.loop-v.invariant
+    let e : c.loop-v.v ≡ c.args.self.now.routes.nodes = omega (arith, c.loop-v-test.false, c.loop-v.auto.v-end) in
+    subst (λ v. LevelTo (g.M.Map.meaning c.args.self.now.routes.map.now) (algebra g.V.Ranking.good g.V.Tariff.joining) c.args.self.now.grain.length.0 c.args.self.now.routes.nodes c.args.self.now.top c.args.l v c.args.table.now c.loop-v.table) e c.loop-v.invariant

@@ -15,7 +15,7 @@ offset_bounds-row-hop g c =
 
 pub improve-requires : goal.improve-requires
 improve-requires g c =
-    let n = c.args.self.now.n in
+    let n = c.args.self.now.routes.nodes in
     let top = c.args.self.now.top in
     let l = c.args.l in
     let below = c.args.below.now in
@@ -23,17 +23,17 @@ improve-requires g c =
     let from = c.place-rests.result in
     let h = c.in-Some.hop in
     let is : from ≡ slot n top l h.leg.to 0 = c.place-rests.ensures ∙ ap (λ k. slot n top l k 0) c.from.ensures in
-    let inside = rests_below n top l h.leg.to from (length below) (omega (arith, c.in-Some.ensures.on, c.requires.routed.measured.nodes)) is c.requires.room in
+    let inside = rests_below n top l h.leg.to from (length below) (omega (arith, c.in-Some.ensures.on, c.requires.routed.nodes)) is c.requires.room in
     let long : length xs ≡ top + 1 = c.loop-code.auto.row ∙ c.fill.auto.self ∙ c.requires.long in
     omega (arith, inside, long, c.if-hop-self.true, mid_len from (length below) below (omega arith), mid_len h.grains (length xs) xs (omega arith))
 
 pub loop-code-preserved : goal.loop-code-preserved
 loop-code-preserved g c =
-    let net = g.M.Map.meaning c.args.map.now in
+    let net = g.M.Map.meaning c.args.self.now.routes.map.now in
     let alg = algebra g.V.Ranking.good g.V.Tariff.joining in
     let lawful = laws g.V.Ranking.good g.V.Tariff.joining g.met.V.Ranking.ranks g.met.V.Tariff.joins in
-    let grain = c.args.self.now.grain.0 in
-    let n = c.args.self.now.n in
+    let grain = c.args.self.now.grain.length.0 in
+    let n = c.args.self.now.routes.nodes in
     let top = c.args.self.now.top in
     let l = c.args.l in
     let v = c.args.v in
@@ -46,7 +46,7 @@ loop-code-preserved g c =
           let from = w.place-rests.result in
           let h = w.in-Some.hop in
           let is : from ≡ slot n top l h.leg.to 0 = w.place-rests.ensures ∙ ap (λ k. slot n top l k 0) w.from.ensures in
-          let inside = rests_below n top l h.leg.to from (length below) (omega (arith, w.in-Some.ensures.on, c.requires.routed.measured.nodes)) is c.requires.room in
+          let inside = rests_below n top l h.leg.to from (length below) (omega (arith, w.in-Some.ensures.on, c.requires.routed.nodes)) is c.requires.room in
           let long : length xs ≡ top + 1 = c.loop-code.auto.row ∙ c.fill.auto.self ∙ c.requires.long in
           let cut : length w.improve.new.row ≡ length xs - h.grains = w.improve.auto.row ∙ mid_len h.grains (length xs) xs (omega arith) in
           subst (RowTo net alg grain top row v (k + 1)) (sym w.row-is)
@@ -59,5 +59,5 @@ loop-code-preserved g c =
 
 pub returns : goal.returns
 returns g c =
-    row_cells (g.M.Map.meaning c.args.map.now) (algebra g.V.Ranking.good g.V.Tariff.joining) (laws g.V.Ranking.good g.V.Tariff.joining g.met.V.Ranking.ranks g.met.V.Tariff.joins) (g.M.Map.sound c.args.map.now)
-    c.args.self.now.grain.0 c.args.self.now.top c.args.l c.args.v c.loop-code.code (best_of c.args.self.now.n c.args.self.now.top c.args.below.now c.args.l) c.loop-code.row (omega (arith, c.requires.node, c.requires.routed.measured.nodes)) c.loop-code-test.false c.loop-code.invariant
+    row_cells (g.M.Map.meaning c.args.self.now.routes.map.now) (algebra g.V.Ranking.good g.V.Tariff.joining) (laws g.V.Ranking.good g.V.Tariff.joining g.met.V.Ranking.ranks g.met.V.Tariff.joins) (g.M.Map.sound c.args.self.now.routes.map.now)
+    c.args.self.now.grain.length.0 c.args.self.now.top c.args.l c.args.v c.loop-code.code (best_of c.args.self.now.routes.nodes c.args.self.now.top c.args.below.now c.args.l) c.loop-code.row (omega (arith, c.requires.node, c.requires.routed.nodes)) c.loop-code-test.false c.loop-code.invariant

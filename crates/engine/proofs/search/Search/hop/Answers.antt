@@ -5,4 +5,4 @@ use Rattle.engine.proofs.search.Search.hop.Goals as goal
 
 pub returns : goal.returns
 returns g c =
-    hop_at (g.M.Map.meaning c.args.map.now) (algebra g.V.Ranking.good g.V.Tariff.joining) (g.M.Map.sound c.args.map.now) c.args.self.now.grain.0 c.args.v c.args.code c.round_up-grains.result.0 c.in_ok-leg.leg (omega (arith, c.requires.node, c.requires.routed.measured.nodes)) c.in_ok-leg.ensures c.round_up-grains.ensures
+    hop_at (g.M.Map.meaning c.args.self.now.routes.map.now) (algebra g.V.Ranking.good g.V.Tariff.joining) (g.M.Map.sound c.args.self.now.routes.map.now) c.args.self.now.grain.length.0 c.args.v c.args.code c.round_up-grains.result.0 c.in_ok-leg.leg (omega (arith, c.requires.node, c.requires.routed.nodes)) c.in_ok-leg.ensures c.round_up-grains.ensures
