@@ -5,5 +5,4 @@ ghost use Rattle.examples.specs.Examples.{Settled};
 
 pub fn examples_are_settled()
     ensures { Settled }
-{
-}
+{}
