@@ -58,12 +58,10 @@ impl<V: Tariff> SourceCells<'_, '_, V> {
         requires some { (c : ℕ) × Attains (M.meaning map.now) (algebra V.good V.joining) self.now.search.grain.0 total (best_of self.now.search.n self.now.search.top self.now.table.now prefix.left) prefix.value prefix.grains prefix.end c }
         ensures { FoundAt (M.meaning map.now) (algebra V.good V.joining) self.now.search.grain.0 total (best_of self.now.search.n self.now.search.top self.now.table.now prefix.left) prefix.value prefix.grains prefix.end result }
     {
-        for code in 0..CODES {
-            if let Some(found) = self.try_code(map, prefix, total, code) {
-                return found;
-            }
+        match (0..CODES).find_map(|code| self.try_code(map, prefix, total, code)) {
+            Some(found) => found,
+            None => unreachable(),
         }
-        unreachable()
     }
 
     // Writes the list of the chosen cell, at each entry the smallest code that attains its value, and gives its delay.
