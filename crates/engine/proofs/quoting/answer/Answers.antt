@@ -7,18 +7,6 @@ use Rattle.engine.specs.Rebuilds.{Written}
 use Rattle.engine.proofs.QuoteAnswered.{answer_none, answer_some}
 use Rattle.engine.proofs.quoting.answer.Goals as goal
 
-pub rebuild-delay-requires : goal.rebuild-delay-requires
-rebuild-delay-requires g c =
-    let lead = c.in-Some.ensures in
-    record {
-      routed = c.requires.routed;
-      labels = lead.0.0;
-      few = lead.0.1;
-      space = omega (arith, lead.0.0, c.from-limit.ensures, c.requires.space);
-      filled = (c.from-target.result, λ m h. c.fill.ensures m (omega (arith, h, lead.0.0)));
-      cell = lead.1;
-    }
-
 pub returns-in_default : goal.returns-in_default
 returns-in_default g c =
     let net = g.M.Map.meaning c.args.map.now in

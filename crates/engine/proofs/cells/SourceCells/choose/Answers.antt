@@ -1,7 +1,7 @@
 use Rattle.std.proofs.Common.{arith}
 use Rattle.segments.specs.Algebra.{algebra}
 use Rattle.engine.specs.Cells.{best_of}
-use Rattle.engine.proofs.SourceScanned.{lead_first, lead_all}
+use Rattle.engine.proofs.SourceScanned.{lead_all}
 use Rattle.engine.proofs.cells.SourceCells.choose.Goals as goal
 
 pub returns : goal.returns

@@ -1,4 +1,4 @@
-use Rattle.std.proofs.Common.{◌≡◌, ℕ, ◌<◌, true, None, Some, Option, subst, arith, rules}
+use Rattle.std.proofs.Common.{ℕ, Option, subst, arith, rules}
 use Rattle.std.proofs.iter.runs.Sources.{range_runs}
 use Rattle.std.specs.Iterator.Runs.{ItemsCountUp}
 use Rattle.segments.specs.Algebra.{algebra, laws}
