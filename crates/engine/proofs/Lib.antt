@@ -3,6 +3,7 @@ pub mod CandidatesBest
 pub mod CellExtended
 pub mod CellPlaces
 pub mod CellsPassed
+pub mod CodesTried
 pub mod ChosenFirst
 pub mod FrontCovered
 pub mod FrontFilled

@@ -58,12 +58,10 @@ impl<M: Map, V: Tariff> SourceCells<'_, '_, M, V> {
         requires some { (c : ℕ) × Attains (M.meaning self.now.search.routes.map.now) (algebra V.good V.joining) self.now.search.grain.length.0 total (best_of self.now.search.routes.nodes self.now.search.top self.now.table.now prefix.left) prefix.value prefix.grains prefix.end c }
         ensures { FoundAt (M.meaning self.now.search.routes.map.now) (algebra V.good V.joining) self.now.search.grain.length.0 total (best_of self.now.search.routes.nodes self.now.search.top self.now.table.now prefix.left) prefix.value prefix.grains prefix.end result }
     {
-        for code in 0..CODES {
-            if let Some(found) = self.try_code(prefix, total, code) {
-                return found;
-            }
+        match (0..CODES).find_map(|code| self.try_code(prefix, total, code)) {
+            Some(found) => found,
+            None => unreachable(),
         }
-        unreachable()
     }
 
     // Writes the list of the chosen cell, at each entry the smallest code that attains its value, and gives its delay.

@@ -6,9 +6,6 @@ use Rattle.engine.proofs.SourceScanned.{lead_none, lead_some, lead_next}
 use Rattle.engine.proofs.cells.SourceCells.choose_at.Goals as goal
 use Rattle.engine.proofs.cells.SourceCells.choose_at.Goals.{in-Some, in_default}
 
-pub read-requires : goal.read-requires
-read-requires g c = record { labels = omega (arith, c.loop-l-test.true); node = c.args.self.now.node; grains = c.requires.grains }
-
 pub loop-l-preserved : goal.loop-l-preserved
 loop-l-preserved g c =
     let alg = algebra g.V.Ranking.good g.V.Tariff.joining in

@@ -6,9 +6,6 @@ use Rattle.engine.proofs.FrontGathered.{gather_none, gather_some, gather_next}
 use Rattle.engine.proofs.cells.SourceCells.offer_column.Goals as goal
 use Rattle.engine.proofs.cells.SourceCells.offer_column.Goals.{in-Some, in_default}
 
-pub read-requires : goal.read-requires
-read-requires g c = record { labels = omega (arith, c.loop-l-test.true); node = c.args.self.now.node; grains = c.requires.grains }
-
 pub loop-l-preserved : goal.loop-l-preserved
 loop-l-preserved g c =
     let good = g.V.Ranking.good in

@@ -1,6 +1,5 @@
 use Rattle.std.proofs.Common.{set, sym, subst, ◌+◌, arith}
 use Rattle.segments.specs.Algebra.{algebra, laws}
-use Rattle.segments.proofs.NumbersFit.{fits_grains}
 use Rattle.engine.specs.Cells.{best_of}
 use Rattle.engine.proofs.ListRebuilt.{RebuiltTo, list_start, list_some, list_step, list_end_of}
 use Rattle.engine.proofs.cells.SourceCells.rebuild.Goals as goal
@@ -10,17 +9,9 @@ loop-i-init g c =
     list_start (g.M.Map.meaning c.args.self.now.search.routes.map.now) (algebra g.V.Ranking.good g.V.Tariff.joining) (laws g.V.Ranking.good g.V.Tariff.joining g.met.V.Ranking.ranks g.met.V.Tariff.joins) (g.M.Map.sound c.args.self.now.search.routes.map.now) c.args.self.now.search.grain.length.0 c.args.self.now.search.top c.args.choice.value (best_of c.args.self.now.search.routes.nodes c.args.self.now.search.top c.args.self.now.table.now) c.args.choice.grains c.args.self.now.source c.args.choice.entries
     c.neutral-prefix.result c.args.list.now c.neutral-prefix.ensures (omega (arith, c.args.self.now.node, c.requires.routed.nodes)) c.requires.few c.requires.cell
 
-pub seek-found-requires : goal.seek-found-requires
-seek-found-requires g c = record {
-  routed = c.requires.routed;
-  labels = omega (arith, c.requires.labels);
-  node = omega (arith, c.loop-i.invariant.node, c.requires.routed.nodes);
-  grains = c.loop-i.invariant.small;
-  some = list_some (g.M.Map.meaning c.args.self.now.search.routes.map.now) (algebra g.V.Ranking.good g.V.Tariff.joining) (laws g.V.Ranking.good g.V.Tariff.joining g.met.V.Ranking.ranks g.met.V.Tariff.joins) (g.M.Map.sound c.args.self.now.search.routes.map.now) c.args.self.now.search.grain.length.0 c.args.self.now.search.top c.args.choice.value (best_of c.args.self.now.search.routes.nodes c.args.self.now.search.top c.args.self.now.table.now) c.args.choice.grains c.args.self.now.source c.args.choice.entries c.loop-i.prefix c.loop-i.d c.loop-i.v c.loop-i.i c.loop-i.delay c.args.list.now c.loop-i.list c.loop-i.invariant c.loop-i-test.true c.requires.filled.0 c.requires.filled.1;
-}
-
-pub overflow_add-delay : goal.overflow_add-delay
-overflow_add-delay g c = fits_grains c.loop-i.delay c.seek-found.result.leg.delay.0 (omega (arith, c.loop-i.invariant.bound, c.loop-i-test.true, c.requires.labels, c.args.self.now.few)) c.seek-found.ensures.delay
+pub seek-found-requires-clause-some : goal.seek-found-requires-clause-some
+seek-found-requires-clause-some g c =
+    list_some (g.M.Map.meaning c.args.self.now.search.routes.map.now) (algebra g.V.Ranking.good g.V.Tariff.joining) (laws g.V.Ranking.good g.V.Tariff.joining g.met.V.Ranking.ranks g.met.V.Tariff.joins) (g.M.Map.sound c.args.self.now.search.routes.map.now) c.args.self.now.search.grain.length.0 c.args.self.now.search.top c.args.choice.value (best_of c.args.self.now.search.routes.nodes c.args.self.now.search.top c.args.self.now.table.now) c.args.choice.grains c.args.self.now.source c.args.choice.entries c.loop-i.prefix c.loop-i.d c.loop-i.v c.loop-i.i c.loop-i.delay c.args.list.now c.loop-i.list c.loop-i.invariant c.loop-i-test.true c.requires.filled.0 c.requires.filled.1
 
 pub loop-i-preserved : goal.loop-i-preserved
 loop-i-preserved g c =

@@ -1,23 +1,10 @@
 use Rattle.std.proofs.Common.{◌<◌, ◌≤◌, refl, subst, arith, rules}
 use Rattle.netmap.specs.declared.link.Microseconds.{Microseconds}
 use Rattle.segments.specs.Algebra.{algebra, laws}
-use Rattle.engine.specs.Cells.{best_of, cells_at, FilledTo}
-use Rattle.engine.specs.Chosen.{LeadOf, Whole}
+use Rattle.engine.specs.Cells.{best_of, FilledTo}
 use Rattle.engine.specs.Rebuilds.{Written}
 use Rattle.engine.proofs.QuoteAnswered.{answer_none, answer_some}
 use Rattle.engine.proofs.search.Search.answer.Goals as goal
-
-pub rebuild-delay-requires : goal.rebuild-delay-requires
-rebuild-delay-requires g c =
-    let lead = c.in-Some.ensures in
-    record {
-      routed = c.requires.routed;
-      labels = lead.0.0;
-      few = lead.0.1;
-      space = omega (arith, lead.0.0, c.requires.space);
-      filled = (c.args.order.target, λ m h. c.fill.ensures m (omega (arith, h, lead.0.0)));
-      cell = lead.1;
-    }
 
 pub returns-in_default : goal.returns-in_default
 returns-in_default g c =
@@ -53,3 +40,6 @@ returns g c =
     let grained = subst (λ (m : Microseconds). Written net alg m.0 k.value (best_of n top table) k.grains o.source k.entries c.rebuild-delay.result c.args.list.now c.rebuild-delay.new.list) c.requires.grain c.rebuild-delay.ensures in
     let written = grained in
     answer_some net alg lawful (g.M.Map.sound c.args.self.routes.map.now) o n top c.requires.top node one table filled k c.rebuild-delay.result c.args.list.now c.rebuild-delay.new.list _ lead written refl
+
+pub rebuild-delay-requires-clause-filled : goal.rebuild-delay-requires-clause-filled
+rebuild-delay-requires-clause-filled g c = (c.args.order.target, λ m h. c.fill.ensures m (omega (arith, h, c.in-Some.ensures.0.0)))
