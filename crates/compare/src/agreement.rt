@@ -1,6 +1,6 @@
 // The engine's replies, held to what enumeration found.
 use brute::{Ask, List, Outcome, Pair, Rule, on_front};
-use engine::{front, quote};
+use engine::{Workspace, front, quote};
 use netmap::{Link, Map, Microseconds, RecordTable};
 use questions::{Denial, Question};
 use segments::{Figures, Labels, Order, Spread, Walk, walk};
@@ -39,12 +39,28 @@ const ENTRIES: usize = 3;
 // The most grains of a bound.
 const GRAINS: usize = 1000;
 
-// What the engine works in.
+// The working slices of the engine's calls.
 #[derive(Drop)]
-pub struct Space<V> {
+struct Slices<V> {
     dist: Vec<Option<u32>>,
     spread: Vec<Option<Spread<V>>>,
     table: Vec<Option<V>>,
+}
+
+impl<V: Known> Slices<V> {
+    fn lend(&mut self) -> Workspace<'_, V> {
+        Workspace {
+            dist: &mut self.dist,
+            spread: &mut self.spread,
+            table: &mut self.table,
+        }
+    }
+}
+
+// What the engine works in, and writes to.
+#[derive(Drop)]
+pub struct Space<V> {
+    slices: Slices<V>,
     list: Vec<u16>,
     slots: Vec<Option<V>>,
 }
@@ -53,9 +69,11 @@ pub struct Space<V> {
 impl<V: Known> Space<V> {
     pub(crate) fn new(heap: Global) -> Result<Space<V>, AllocError> {
         Ok(Space {
-            dist: vec![in heap; None; NODES * NODES]?,
-            spread: vec![in heap; None; NODES * NODES]?,
-            table: vec![in heap; None; (ENTRIES + 1) * NODES * (GRAINS + 1)]?,
+            slices: Slices {
+                dist: vec![in heap; None; NODES * NODES]?,
+                spread: vec![in heap; None; NODES * NODES]?,
+                table: vec![in heap; None; (ENTRIES + 1) * NODES * (GRAINS + 1)]?,
+            },
             list: vec![in heap; 0; ENTRIES]?,
             slots: vec![in heap; None; GRAINS + 1]?,
         })
@@ -66,25 +84,11 @@ impl<V: Known> Space<V> {
         map: &RecordTable<'_>,
         order: Order,
     ) -> Result<Figures<V>, Denial> {
-        quote(
-            map,
-            order,
-            &mut self.dist,
-            &mut self.spread,
-            &mut self.table,
-            &mut self.list,
-        )
+        quote(map, order, &mut self.slices.lend(), &mut self.list)
     }
 
     fn front(&mut self, map: &RecordTable<'_>, order: Order) -> Result<usize, Denial> {
-        front(
-            map,
-            order,
-            &mut self.dist,
-            &mut self.spread,
-            &mut self.table,
-            &mut self.slots,
-        )
+        front(map, order, &mut self.slices.lend(), &mut self.slots)
     }
 
     fn walk(
@@ -99,8 +103,8 @@ impl<V: Known> Space<V> {
             source,
             Microseconds(grain),
             codes,
-            &mut self.dist,
-            &mut self.spread,
+            &mut self.slices.dist,
+            &mut self.slices.spread,
         )
     }
 }

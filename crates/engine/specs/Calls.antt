@@ -11,6 +11,7 @@ use Rattle.segments.specs.declared.figures.Spread.{Spread}
 use Rattle.segments.specs.declared.order.Order.{Order}
 use Rattle.segments.specs.Algebra.{Algebra}
 use Rattle.engine.specs.declared.checks.Room.{Room}
+use Rattle.engine.specs.declared.workspace.Workspace.{Workspace}
 use Rattle.keeper.specs.Fronts.{Front}
 use Rattle.engine.specs.Fronts.{Had, held, most_grains_of}
 use Rattle.engine.specs.Quotes.{Quoted, Unserved, KeepsBound}
@@ -58,6 +59,20 @@ pub record Working (V : Type 0) : Type 0 where
 
 abbrev pub working : {V : Type 0} → List (Option ℕ) → List (Option (Spread V)) → List (Option V) → Working V
 working dist spread table = record { dist = dist; spread = spread; table = table }
+
+-- the lengths of a workspace's slices, and what they hold
+abbrev pub room_in : {V : Type 0} → Workspace V → Room
+room_in w = room_of w.dist.now w.spread.now w.table.now
+
+abbrev pub held_in : {V : Type 0} → Workspace V → Working V
+held_in w = working w.dist.now w.spread.now w.table.now
+
+-- the same slices, whatever they hold
+pub record SameSlices {V : Type 0} (was is : Workspace V) : Type 0 where
+  pub dist : is.dist.ghost_name ≡ was.dist.ghost_name
+  pub spread : is.spread.ghost_name ≡ was.spread.ghost_name
+  pub table : is.table.ghost_name ≡ was.table.ghost_name
+  pub room : room_in is ≡ room_in was
 
 -- every denial leaves the working slices as they were
 abbrev pub Untouched : {V A : Type 0} → Result A Denial → Working V → Working V → Type 0

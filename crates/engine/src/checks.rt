@@ -1,12 +1,12 @@
 // The questions that a quote and a front both ask of an order.
 ghost use Rattle.std.specs.Prelude.{◌≡◌, ◌+◌, ◌*◌, ◌≤◌, ◌&&◌, nat_le, Some, None, MatchResult};
-ghost use Rattle.engine.specs.Calls.{room_of, order_denial};
+ghost use Rattle.engine.specs.Calls.{room_in, order_denial};
 ghost use Rattle.engine.specs.Fronts.{most_grains_of};
 
+use crate::workspace::Workspace;
 use netmap::Map;
 use questions::{Denial, Layer, Question};
-use segments::{Grain, Labels, Order, Spread};
-use tariff::Tariff;
+use segments::{Grain, Labels, Order};
 
 const MAX_LIMIT: Labels = Labels(10);
 
@@ -21,17 +21,13 @@ pub struct Room {
 }
 
 impl Room {
-    pub(crate) fn of<V: Tariff>(
-        dist: &[Option<u32>],
-        spread: &[Option<Spread<V>>],
-        table: &[Option<V>],
-    ) -> Room
-        ensures { result ≡ room_of dist.now spread.now table.now }
+    pub(crate) fn of<V>(work: &Workspace<'_, V>) -> Room
+        ensures { result ≡ room_in work.now }
     {
         Room {
-            dist: dist.len(),
-            spread: spread.len(),
-            table: table.len(),
+            dist: work.dist.len(),
+            spread: work.spread.len(),
+            table: work.table.len(),
         }
     }
 

@@ -13,9 +13,11 @@ pub mod running;
 mod search;
 mod table;
 pub mod theorems;
+pub mod workspace;
 
 pub use keeper;
 pub use keeper::{empty_slots, offer};
 pub use pareto::front;
 pub use quoting::quote;
 pub use running::{Call, Reply, Step, run};
+pub use workspace::Workspace;

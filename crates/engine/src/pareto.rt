@@ -1,15 +1,16 @@
 // The Pareto front of grains and value, over all lists within an order.
-ghost use Rattle.std.specs.Prelude.{◌≡◌, ◌+◌, ◌≤◌, length};
+ghost use Rattle.std.specs.Prelude.{◌≡◌, ◌+◌, ◌≤◌, length, None, Ok};
 ghost use Rattle.segments.specs.Algebra.{algebra};
-ghost use Rattle.engine.specs.Calls.{room_of, working, Untouched, FrontCall};
+ghost use Rattle.engine.specs.Calls.{room_of, room_in, held_in, SameSlices, Untouched, FrontCall, order_denial};
 ghost use Rattle.engine.specs.Cells.{cells_at};
 ghost use Rattle.engine.specs.Chosen.{Passed, Whole};
-ghost use Rattle.engine.specs.Fronts.{held as held_count};
+ghost use Rattle.engine.specs.Fronts.{held as held_count, most_grains_of};
 ghost use Rattle.engine.specs.Offers.{Gathered};
 
 use crate::cells::SourceCells;
-use crate::checks::{Room, check_order};
+use crate::checks::{Room, Terms, check_order};
 use crate::search::Search;
+use crate::workspace::Workspace;
 use keeper::{empty_slots, offer};
 use netmap::Map;
 use questions::{Denial, Layer, Question};
@@ -50,22 +51,22 @@ fn count_held<V: Ranking>(slots: &[Option<V>]) -> usize
     slots.iter().filter(|slot| slot.is_some()).count()
 }
 
-// The front of an order into a slot for each number of grains, and how many pairs it has.
-pub fn front<M: Map, V: Tariff>(
+// The search of a front, for an order whose questions are all answered yes.
+fn search_front<M: Map, V: Tariff>(
     map: &M,
     order: Order,
+    terms: Terms,
     dist: &mut [Option<u32>],
     spread: &mut [Option<Spread<V>>],
     table: &mut [Option<V>],
     slots: &mut [Option<V>],
-) -> Result<usize, Denial>
-    ensures call { FrontCall (M.meaning map.now) (algebra V.good V.joining) order (room_of dist.old spread.old table.old) slots.old slots.new result }
-    ensures slices { Untouched result (working dist.old spread.old table.old) (working dist.new spread.new table.new) }
+) -> usize
+    requires granted { order_denial (M.meaning map.now) order (room_of dist.old spread.old table.old) ≡ None }
+    requires grain { terms.grain.length ≡ order.grain }
+    requires top { terms.top ≡ most_grains_of order }
+    requires space { terms.top + 1 ≤ length slots.old }
+    ensures { FrontCall (M.meaning map.now) (algebra V.good V.joining) order (room_of dist.old spread.old table.old) slots.old slots.new (Ok result) }
 {
-    let terms = check_order(map, order, Room::of(dist, spread, table))?;
-    if slots.len() < terms.top + 1 {
-        return Err(Denial::new(Question::FrontSpace, Layer::Order, order.index));
-    }
     let nodes = map.nodes();
     let limit = order.limit.0 as usize;
     route(map, nodes, dist, spread);
@@ -83,5 +84,24 @@ pub fn front<M: Map, V: Tariff>(
     };
     let part = &mut slots[..terms.top + 1];
     cells.gather(part);
-    Ok(count_held(part))
+    count_held(part)
+}
+
+// The front of an order into a slot for each number of grains, and how many pairs it has.
+pub fn front<M: Map, V: Tariff>(
+    map: &M,
+    order: Order,
+    work: &mut Workspace<'_, V>,
+    slots: &mut [Option<V>],
+) -> Result<usize, Denial>
+    ensures call { FrontCall (M.meaning map.now) (algebra V.good V.joining) order (room_in work.old) slots.old slots.new result }
+    ensures slices { Untouched result (held_in work.old) (held_in work.new) }
+    ensures same { SameSlices work.old work.new }
+{
+    let terms = check_order(map, order, Room::of(work))?;
+    if slots.len() < terms.top + 1 {
+        return Err(Denial::new(Question::FrontSpace, Layer::Order, order.index));
+    }
+    // slice by slice, since a slice behind the loan of a struct cannot be lent again to be read
+    Ok(search_front(map, order, terms, work.dist, work.spread, work.table, slots))
 }

@@ -1,13 +1,14 @@
 // A quote: the list within an order that precedes every other.
-ghost use Rattle.std.specs.Prelude.{◌≡◌, ◌+◌, ◌*◌, ◌<◌, ◌≤◌, length};
+ghost use Rattle.std.specs.Prelude.{◌≡◌, ◌+◌, ◌*◌, ◌<◌, ◌≤◌, length, None};
 ghost use Rattle.segments.specs.Algebra.{algebra};
 ghost use Rattle.segments.specs.Spreads.{Routed};
-ghost use Rattle.engine.specs.Calls.{room_of, working, UntouchedBefore, Searched, QuoteCall};
+ghost use Rattle.engine.specs.Calls.{room_of, room_in, held_in, SameSlices, UntouchedBefore, Searched, QuoteCall, order_denial};
 ghost use Rattle.engine.specs.Fronts.{most_grains_of};
 
 use crate::cells::SourceCells;
-use crate::checks::{Room, check_order};
+use crate::checks::{Room, Terms, check_order};
 use crate::search::Search;
+use crate::workspace::Workspace;
 use netmap::{Map, Microseconds};
 use questions::{Denial, Layer, Question};
 use segments::{Figures, Grains, Labels, Order, Routes, Spread, route};
@@ -52,23 +53,22 @@ impl<M: Map, V: Tariff> Search<'_, M, V> {
     }
 }
 
-// The segment list for an order into the first places of the list space, and its figures.
-// For n nodes, a label limit of k and B whole grains within the bound the working slices hold n × n, n × n and (k + 1) × (B + 1) × n slots.
-pub fn quote<M: Map, V: Tariff>(
+// The search of a quote, for an order whose questions are all answered yes.
+fn search_list<M: Map, V: Tariff>(
     map: &M,
     order: Order,
+    terms: Terms,
     dist: &mut [Option<u32>],
     spread: &mut [Option<Spread<V>>],
     table: &mut [Option<V>],
     list: &mut [u16],
 ) -> Result<Figures<V>, Denial>
-    ensures call { QuoteCall (M.meaning map.now) (algebra V.good V.joining) order (room_of dist.old spread.old table.old) list.old list.new result }
-    ensures slices { UntouchedBefore result (working dist.old spread.old table.old) (working dist.new spread.new table.new) }
+    requires granted { order_denial (M.meaning map.now) order (room_of dist.old spread.old table.old) ≡ None }
+    requires grain { terms.grain.length ≡ order.grain }
+    requires top { terms.top ≡ most_grains_of order }
+    requires space { order.limit.0 ≤ length list.old }
+    ensures { Searched (M.meaning map.now) (algebra V.good V.joining) order list.old list.new result }
 {
-    let terms = check_order(map, order, Room::of(dist, spread, table))?;
-    if list.len() < order.limit.0 as usize {
-        return Err(Denial::new(Question::ListSpace, Layer::Order, order.index));
-    }
     let nodes = map.nodes();
     route(map, nodes, dist, spread);
     let search = Search {
@@ -77,4 +77,23 @@ pub fn quote<M: Map, V: Tariff>(
         top: terms.top,
     };
     search.answer(order, table, list)
+}
+
+// The segment list for an order into the first places of the list space, and its figures.
+pub fn quote<M: Map, V: Tariff>(
+    map: &M,
+    order: Order,
+    work: &mut Workspace<'_, V>,
+    list: &mut [u16],
+) -> Result<Figures<V>, Denial>
+    ensures call { QuoteCall (M.meaning map.now) (algebra V.good V.joining) order (room_in work.old) list.old list.new result }
+    ensures slices { UntouchedBefore result (held_in work.old) (held_in work.new) }
+    ensures same { SameSlices work.old work.new }
+{
+    let terms = check_order(map, order, Room::of(work))?;
+    if list.len() < order.limit.0 as usize {
+        return Err(Denial::new(Question::ListSpace, Layer::Order, order.index));
+    }
+    // slice by slice, since a slice behind the loan of a struct cannot be lent again to be read
+    search_list(map, order, terms, work.dist, work.spread, work.table, list)
 }

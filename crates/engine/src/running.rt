@@ -1,14 +1,15 @@
 // A run of calls on a map, each of which finds what the calls before it left.
 ghost use Rattle.std.specs.Prelude.{◌≡◌};
 ghost use Rattle.segments.specs.Algebra.{algebra};
-ghost use Rattle.engine.specs.Calls.{room_of};
+ghost use Rattle.engine.specs.Calls.{room_in, SameSlices};
 ghost use Rattle.engine.specs.Runs.{Answers, Runs, after};
 
 use crate::pareto::front;
 use crate::quoting::quote;
+use crate::workspace::Workspace;
 use netmap::{Link, Map};
 use questions::Denial;
-use segments::{Figures, Order, Spread};
+use segments::{Figures, Order};
 use tariff::Tariff;
 
 #[derive(Clone, Copy)]
@@ -36,15 +37,10 @@ pub struct Step<V> {
 }
 
 // Makes one call on the map that it finds.
-fn perform<M: Map, V: Tariff>(
-    map: &mut M,
-    step: &mut Step<V>,
-    dist: &mut [Option<u32>],
-    spread: &mut [Option<Spread<V>>],
-    table: &mut [Option<V>],
-)
+fn perform<M: Map, V: Tariff>(map: &mut M, step: &mut Step<V>, work: &mut Workspace<'_, V>)
     ensures kept { step.new.call ≡ step.old.call }
-    ensures answers { Answers (algebra V.good V.joining) (room_of dist.old spread.old table.old) (M.meaning map.old) step.old.call step.old step.new }
+    ensures answers { Answers (algebra V.good V.joining) (room_in work.old) (M.meaning map.old) step.old.call step.old step.new }
+    ensures same { SameSlices work.old work.new }
     ensures leaves { M.meaning map.new ≡ after (M.meaning map.old) step.old.call }
 {
     match step.call {
@@ -55,39 +51,20 @@ fn perform<M: Map, V: Tariff>(
             step.reply = Some(Reply::Changed(map.remove(place)));
         }
         Call::Quote(order) => {
-            step.reply = Some(Reply::Quoted(quote(
-                map,
-                order,
-                dist,
-                spread,
-                table,
-                step.list.as_mut_slice(),
-            )));
+            step.reply = Some(Reply::Quoted(quote(map, order, work, step.list.as_mut_slice())));
         }
         Call::Front(order) => {
-            step.reply = Some(Reply::Front(front(
-                map,
-                order,
-                dist,
-                spread,
-                table,
-                step.slots.as_mut_slice(),
-            )));
+            step.reply = Some(Reply::Front(front(map, order, work, step.slots.as_mut_slice())));
         }
     }
 }
 
 // Makes the calls in turn, each on the map that it finds.
-pub fn run<M: Map, V: Tariff>(
-    map: &mut M,
-    steps: &mut [Step<V>],
-    dist: &mut [Option<u32>],
-    spread: &mut [Option<Spread<V>>],
-    table: &mut [Option<V>],
-)
-    ensures { Runs (algebra V.good V.joining) (room_of dist.old spread.old table.old) (M.meaning map.old) steps.old steps.new (M.meaning map.new) }
+pub fn run<M: Map, V: Tariff>(map: &mut M, steps: &mut [Step<V>], work: &mut Workspace<'_, V>)
+    ensures runs { Runs (algebra V.good V.joining) (room_in work.old) (M.meaning map.old) steps.old steps.new (M.meaning map.new) }
+    ensures same { SameSlices work.old work.new }
 {
     for s in steps.iter_mut() {
-        perform(map, s, dist, spread, table);
+        perform(map, s, work);
     }
 }

@@ -5,40 +5,40 @@ use Rattle.engine.specs.Calls.{room_of}
 use Rattle.engine.specs.Cells.{FilledTo}
 use Rattle.engine.specs.Fronts.{most_grains_of}
 use Rattle.engine.proofs.FrontFilled.{front_returned}
-use Rattle.engine.proofs.OrderAdmitted.{admitted, asked_of}
-use Rattle.engine.proofs.pareto.front.Goals as goal
+use Rattle.engine.proofs.OrderAdmitted.{admitted}
+use Rattle.engine.proofs.pareto.search_front.Goals as goal
 
 pub fill-requires-clause-room : goal.fill-requires-clause-room
 fill-requires-clause-room g c =
     let net = g.M.Map.meaning c.args.map.now in
     let o = c.args.order in
     let room = room_of c.args.dist.now c.args.spread.now c.args.table.now in
-    let a = admitted net o room (asked_of net o c.of.result room _ c.of.ensures c.in_ok-terms.ensures.0) in
+    let a = admitted net o room c.requires.granted in
     let long = length c.args.table.now in
     let nodes = subst (λ k. (o.limit.0 + 1) * k * (most_grains_of o + 1) ≤ long) (sym c.nodes-nodes.ensures) a.table in
-    subst (λ t. (o.limit.0 + 1) * c.nodes-nodes.result * (t + 1) ≤ long) (sym c.in_ok-terms.ensures.2) nodes
+    subst (λ t. (o.limit.0 + 1) * c.nodes-nodes.result * (t + 1) ≤ long) (sym c.requires.top) nodes
 
-pub returns-clause-call : goal.returns-clause-call
-returns-clause-call g c =
+pub returns : goal.returns
+returns g c =
     let net = g.M.Map.meaning c.args.map.now in
     let alg = algebra g.V.Ranking.good g.V.Tariff.joining in
     let lawful = laws g.V.Ranking.good g.V.Tariff.joining g.met.V.Ranking.ranks g.met.V.Tariff.joins in
     let o = c.args.order in
     let room = room_of c.args.dist.now c.args.spread.now c.args.table.now in
-    let none = asked_of net o c.of.result room _ c.of.ensures c.in_ok-terms.ensures.0 in
-    let top = c.in_ok-terms.terms.top in
-    let filled = subst (λ (m : Microseconds). FilledTo net alg m.0 o.target c.nodes-nodes.result top o.limit.0 c.fill.new.table) c.in_ok-terms.ensures.1 c.fill.ensures in
+    let none = c.requires.granted in
+    let top = c.args.terms.top in
+    let filled = subst (λ (m : Microseconds). FilledTo net alg m.0 o.target c.nodes-nodes.result top o.limit.0 c.fill.new.table) c.requires.grain c.fill.ensures in
     front_returned net alg lawful (g.M.Map.sound c.args.map.now) o room c.nodes-nodes.result top o.limit.0 o.source o.target c.fill.new.table c.args.slots.now c.gather.new.slots c.count_held.result
-    none c.in_ok-terms.ensures.2 refl refl refl c.if-slots-terms.false filled c.gather.ensures c.gather.auto.slots c.count_held.ensures
+    none c.requires.top refl refl refl c.requires.space filled c.gather.ensures c.gather.auto.slots c.count_held.ensures
 
 pub invariant_of-search : goal.invariant_of-search
 invariant_of-search g c =
     let net = g.M.Map.meaning c.args.map.now in
     let room = room_of c.args.dist.now c.args.spread.now c.args.table.now in
-    let a = admitted net c.args.order room (asked_of net c.args.order c.of.result room _ c.of.ensures c.in_ok-terms.ensures.0) in
+    let a = admitted net c.args.order room c.requires.granted in
     record {
       few = omega (arith, c.nodes-nodes.ensures, (g.M.Map.sound c.args.map.now).nodes_high);
-      short = omega (arith, c.in_ok-terms.ensures.2, a.top);
+      short = omega (arith, c.requires.top, a.top);
     }
 
 pub invariant_of-cells : goal.invariant_of-cells
@@ -46,8 +46,8 @@ invariant_of-cells g c =
     let net = g.M.Map.meaning c.args.map.now in
     let o = c.args.order in
     let room = room_of c.args.dist.now c.args.spread.now c.args.table.now in
-    let a = admitted net o room (asked_of net o c.of.result room _ c.of.ensures c.in_ok-terms.ensures.0) in
-    let top = sym c.in_ok-terms.ensures.2 in
+    let a = admitted net o room c.requires.granted in
+    let top = sym c.requires.top in
     let is = sym c.nodes-nodes.ensures in
     record {
       few = a.limit_high;
