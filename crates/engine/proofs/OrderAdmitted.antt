@@ -1,10 +1,10 @@
 -- What an order keeps whose questions are all answered yes.
-use Rattle.std.proofs.Common.{◌≡◌, ℕ, ◌+◌, ◌*◌, ◌<◌, ◌≤◌, ◌&&◌, ltb, leb, None, Result, sym, ap, ◌∙◌, subst, mul_assoc, mul_comm}
+use Rattle.std.proofs.Common.{◌≡◌, ℕ, ◌+◌, ◌*◌, ◌<◌, ◌≤◌, ◌&&◌, ltb, leb, None, Ok, Result, sym, ap, ◌∙◌, subst, mul_assoc, mul_comm}
 use Rattle.std.proofs.lemmas.Bool.{and_parts, ltb-true, leb-true}
 use Rattle.netmap.specs.Net.{Net}
 use Rattle.questions.specs.declared.denial.Denial.{Denial}
 use Rattle.questions.specs.Asking.{reply}
-use Rattle.questions.proofs.Asking.{all_yes}
+use Rattle.questions.proofs.Asking.{all_yes, granted}
 use Rattle.segments.specs.declared.order.Order.{Order}
 use Rattle.engine.specs.declared.checks.Room.{Room}
 use Rattle.engine.specs.Calls.{order_questions, order_denial}
@@ -42,6 +42,11 @@ admitted net o room e =
       table = subst (λ x. x ≤ room.table) (swap (o.limit.0 + 1) (most_grains_of o + 1) net.nodes) (leb-true _ _ space.1);
     }
 
--- what was asked of a room, asked of the lengths of the slices
-pub asked_of : (net : Net) (o : Order) (a b : Room) (r : Result (Unit {0}) Denial) → a ≡ b → r ≡ reply (order_denial net o a) tt → r ≡ reply (order_denial net o b) tt
-asked_of net o a b r is e = e ∙ ap (λ k. reply (order_denial net o k) tt) is
+-- the questions were asked of a room of the slices' lengths, and none was answered no
+pub none_denied : (net : Net) (o : Order) (a b : Room) → a ≡ b → ◌≡◌ {A = Result (Unit {0}) Denial} (Ok tt) (reply (order_denial net o a) tt) → order_denial net o b ≡ None
+none_denied net o a b is e = granted {A = Unit {0}} (order_denial net o b) tt tt (e ∙ ap (λ k. reply {A = Unit {0}} (order_denial net o k) tt) is)
+
+-- the table has room for the cells, whatever the counts are called
+pub table_room : (n top limit : ℕ) (net : Net) (o : Order) (room : Room) → Admitted net o room → n ≡ net.nodes → top ≡ most_grains_of o → limit ≡ o.limit.0 → (limit + 1) * n * (top + 1) ≤ room.table
+table_room n top limit net o room a n-is top-is limit-is =
+    subst (λ l. (l + 1) * n * (top + 1) ≤ room.table) (sym limit-is) (subst (λ t. (o.limit.0 + 1) * n * (t + 1) ≤ room.table) (sym top-is) (subst (λ k. (o.limit.0 + 1) * k * (most_grains_of o + 1) ≤ room.table) (sym n-is) a.table))
