@@ -1,8 +1,8 @@
-use Rattle.std.proofs.Common.{◌≡◌, get_or, take, refl, subst, arith, take_all}
+use Rattle.std.proofs.Common.{◌≡◌, get_or, refl, subst}
 use Rattle.segments.specs.Algebra.{algebra}
 use Rattle.engine.specs.declared.checks.Room.{Room}
 use Rattle.engine.specs.Calls.{room_of}
-use Rattle.engine.specs.Runs.{Runs, Answers}
+use Rattle.engine.specs.Runs.{Answers}
 use Rattle.engine.proofs.RunExtended.{runs_more}
 use Rattle.engine.proofs.running.run.Goals as goal
 
@@ -17,12 +17,3 @@ loop-s-preserved g c =
     let told = subst (λ (r : Room). Answers alg r (g.M.Map.meaning l.map) s.call s p.new.step) same p.ensures.answers in
     runs_more alg room (g.M.Map.meaning c.args.map.now) (g.M.Map.meaning l.map) (g.M.Map.meaning p.new.map) c.args.steps.now l.steps l.s-index c.s-item.result s p.new.step
     c.loop-s-test.true l.auto.steps refl l.invariant.0 l.invariant.1 p.ensures.kept told p.ensures.leaves
-
-pub returns : goal.returns
-returns g c =
-    let l = c.loop-s in
-    let room = room_of c.args.dist.now c.args.spread.now c.args.table.now in
-    let front = take_all l.s-index c.args.steps.now c.loop-s-test.false in
-    let back = take_all l.s-index l.steps (omega (arith, l.auto.steps, c.loop-s-test.false)) in
-    subst (λ x. Runs (algebra g.V.Ranking.good g.V.Tariff.joining) room (g.M.Map.meaning c.args.map.now) x l.steps (g.M.Map.meaning l.map)) front
-    (subst (λ x. Runs (algebra g.V.Ranking.good g.V.Tariff.joining) room (g.M.Map.meaning c.args.map.now) (take l.s-index c.args.steps.now) x (g.M.Map.meaning l.map)) back l.invariant.0)
