@@ -87,7 +87,7 @@ pub fn run<M: Map, V: Tariff>(
 )
     ensures { Runs (algebra V.good V.joining) (room_of dist.old spread.old table.old) (M.meaning map.old) steps.old steps.new (M.meaning map.new) }
 {
-    for s in steps.iter_mut() {
-        perform(map, s, dist, spread, table);
+    for step in steps.iter_mut() {
+        perform(map, step, dist, spread, table);
     }
 }

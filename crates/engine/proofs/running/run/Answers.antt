@@ -6,14 +6,14 @@ use Rattle.engine.specs.Runs.{Answers}
 use Rattle.engine.proofs.RunExtended.{runs_more}
 use Rattle.engine.proofs.running.run.Goals as goal
 
-pub loop-s-preserved : goal.loop-s-preserved
-loop-s-preserved g c =
+pub loop-step-preserved : goal.loop-step-preserved
+loop-step-preserved g c =
     let alg = algebra g.V.Ranking.good g.V.Tariff.joining in
-    let l = c.loop-s in
+    let l = c.loop-step in
     let p = c.perform in
-    let s = get_or l.steps l.s-index c.s-item.result in
+    let s = get_or l.steps l.step-index c.step-item.result in
     let room = room_of c.args.dist.now c.args.spread.now c.args.table.now in
     let same : room_of l.dist l.spread l.table ≡ room = λ i. record { dist = l.auto.dist i; spread = l.auto.spread i; table = l.auto.table i } in
     let told = subst (λ (r : Room). Answers alg r (g.M.Map.meaning l.map) s.call s p.new.step) same p.ensures.answers in
-    runs_more alg room (g.M.Map.meaning c.args.map.now) (g.M.Map.meaning l.map) (g.M.Map.meaning p.new.map) c.args.steps.now l.steps l.s-index c.s-item.result s p.new.step
-    c.loop-s-test.true l.auto.steps refl l.invariant.0 l.invariant.1 p.ensures.kept told p.ensures.leaves
+    runs_more alg room (g.M.Map.meaning c.args.map.now) (g.M.Map.meaning l.map) (g.M.Map.meaning p.new.map) c.args.steps.now l.steps l.step-index c.step-item.result s p.new.step
+    c.loop-step-test.true l.auto.steps refl l.invariant.0 l.invariant.1 p.ensures.kept told p.ensures.leaves
