@@ -1,5 +1,5 @@
 -- Where the cells of the table lie.
-use Rattle.std.proofs.Common.{◌≡◌, ℕ, ◌+◌, ◌-◌, ◌*◌, ◌<◌, ◌≤◌, List, length, take, drop, get_or, None, Option, ap, ◌∙◌, mul-le-mul, mul-le-mul_right, arith, w64, Fits, rules}
+use Rattle.std.proofs.Common.{◌≡◌, ℕ, ◌+◌, ◌-◌, ◌*◌, ◌<◌, ◌≤◌, List, length, take, drop, get_or, None, Option, ap, ◌∙◌, mul-le-mul_right, arith}
 use Rattle.std.proofs.lemmas.List.{get_or-take, get_or-drop}
 use lib.Arith.{digits_lt}
 use Rattle.engine.specs.Cells.{slot, best_of}
@@ -21,12 +21,6 @@ slot_before n top l m u v d h k small =
 pub slot_left : (n top l u v d : ℕ) → u < v → d ≤ top → slot n top l u d < slot n top l v 0
 slot_left n top l u v d h small = omega (arith, row_before (top + 1) (l * n + u) (l * n + v) d (omega arith) (omega arith))
 
-pub slot_small : (n top l v d : ℕ) → n ≤ 64 → top ≤ 1000 → l ≤ 10 → v < n → d ≤ top → slot n top l v d ≤ 704703
-slot_small n top l v d hn ht hl hv hd =
-    let a : l * n ≤ 640 = mul-le-mul {n₁ = l} {m₁ = n} {n₂ = 10} {m₂ = 64} hl hn in
-    let b : (l * n + v) * (top + 1) ≤ 703 * 1001 = mul-le-mul {n₁ = l * n + v} {m₁ = top + 1} {n₂ = 703} {m₂ = 1001} (omega arith) (omega arith) in
-    omega arith
-
 -- the rows up to l end before the next level begins
 pub slot_end : (n top l v d m : ℕ) → l < m → v < n → d ≤ top → slot n top l v d < m * n * (top + 1)
 slot_end n top l v d m h k small = row_before (top + 1) (l * n + v) (m * n) d (level_before n l m v h k) (omega arith)
@@ -45,6 +39,3 @@ rests_below n top l v from long node is room = omega (arith, is, slot_before n t
 -- and is read there
 pub rests_read : {V : Type 0} (n top l v from : ℕ) (below : List (Option V)) → from ≡ slot n top l v 0 → from + top < length below → (j : ℕ) → j ≤ top → get_or (take (length below - from) (drop from below)) j None ≡ best_of n top below l j v
 rests_read n top l v from below is inside j small = get_or-take (length below - from) (drop from below) j None (omega arith) ∙ get_or-drop from below j None ∙ ap (λ i. get_or below i None) (omega (arith, is))
-
-pub cells_fit : (x : ℕ) → x ≤ 1000000 → Fits w64 x
-cells_fit x h = search rules

@@ -1,13 +1,12 @@
 -- The front of the cells at the source, cell by cell.
-use Rattle.std.proofs.Common.{◌≡◌, ℕ, ◌+◌, ◌<◌, ◌≤◌, Bool, true, List, [], ◌∷◌, length, Some, None, Option, Result, sym, ap, ◌∙◌, subst, inl, inr, ⊎_elim, arith}
+use Rattle.std.proofs.Common.{◌≡◌, ℕ, ◌+◌, ◌<◌, ◌≤◌, Bool, true, List, ◌∷◌, length, Some, None, Option, Result, sym, ap, ◌∙◌, subst, inl, inr, ⊎_elim, arith}
 use Rattle.std.proofs.lemmas.Bool.{lt-ltb}
 use Rattle.questions.specs.declared.denial.Denial.{Denial}
-use Rattle.engine.specs.Chosen.{Passed, Whole}
-use Rattle.keeper.specs.Fronts.{Front}
-use Rattle.keeper.specs.Keepers.{Accepted, OfferBy, OfferCall}
+use Rattle.engine.specs.Chosen.{Passed}
+use Rattle.keeper.specs.Keepers.{OfferBy, OfferCall}
 use Rattle.segments.proofs.OptionValues.{some_same, none_some}
 use Rattle.engine.specs.Offers.{Gathered}
-use Rattle.engine.proofs.CellsPassed.{passed_split, passed_more, column_passed, column_covered, all_passed, all_covered, none_passed}
+use Rattle.engine.proofs.CellsPassed.{passed_split, passed_more, column_passed, column_covered}
 
 module _ {V : Type 0} (good : V → V → Bool) (best : ℕ → ℕ → Option V) where
   pub gather_same : (S R : ℕ → ℕ → Type 0) (slots : List (Option V)) → ((m e : ℕ) → S m e → R m e) → ((m e : ℕ) → R m e → S m e) → Gathered good best S slots → Gathered good best R slots
@@ -45,9 +44,3 @@ module _ {V : Type 0} (good : V → V → Bool) (best : ℕ → ℕ → Option V
 
   pub gather_next : (limit d l : ℕ) (slots : List (Option V)) → limit < l → Gathered good best (Passed limit d l) slots → Gathered good best (Passed limit (d + 1) 0) slots
   gather_next limit d l slots past = gather_same (Passed limit d l) (Passed limit (d + 1) 0) slots (λ m e. column_passed limit d l m e) (λ m e. column_covered limit d l m e past)
-
-  pub gather_all : (limit top d : ℕ) (slots : List (Option V)) → d ≡ top + 1 → Gathered good best (Passed limit d 0) slots → Gathered good best (Whole limit top) slots
-  gather_all limit top d slots past = gather_same (Passed limit d 0) (Whole limit top) slots (λ m e. all_passed limit top d m e past) (λ m e. all_covered limit top d m e past)
-
-  pub gather_first : (limit : ℕ) (slots : List (Option V)) → Front good (Accepted []) slots → Gathered good best (Passed limit 0 0) slots
-  gather_first limit slots front = record { pairs = []; front = front; only = λ e y a. absurd a; all = λ m e y p. absurd (none_passed limit m e p) }

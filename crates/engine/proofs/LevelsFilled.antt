@@ -1,5 +1,5 @@
 -- The rows of one number of entries filled node by node, and the levels in turn.
-use Rattle.std.proofs.Common.{◌≡◌, ℕ, ◌+◌, ◌*◌, ◌<◌, ◌≤◌, ◌⊎◌, List, [], ◌∷◌, ◌++◌, length, take, set, get_or, Some, None, Option, sym, refl, ap, ◌∙◌, subst, inl, inr, ⊎_elim, zero-mul, arith, get_or-set_other, get_or-set_same}
+use Rattle.std.proofs.Common.{◌≡◌, ℕ, ◌+◌, ◌*◌, ◌<◌, ◌≤◌, ◌⊎◌, List, [], ◌∷◌, ◌++◌, length, take, set, get_or, Some, None, Option, sym, ap, ◌∙◌, subst, inl, inr, ⊎_elim, zero-mul, arith, get_or-set_other, get_or-set_same}
 use Rattle.std.proofs.lemmas.Bool.{cases_eq}
 use Rattle.std.proofs.lemmas.List.{get_or-take, get_or-append-add, get_or_append_left}
 use Rattle.netmap.specs.Net.{Net}
@@ -10,9 +10,6 @@ use Rattle.engine.specs.Cells.{slot, best_of, Kept, LevelTo, FilledTo, Row, Cell
 use Rattle.engine.proofs.CellExtended.{cell_none}
 use Rattle.keeper.proofs.IndexSplit.{last_or}
 use Rattle.engine.proofs.CellPlaces.{row_before, slot_before, slot_left, level_first}
-
-pub level_start : {V : Type 0} (net : Net) (alg : Algebra V) (grain n top l : ℕ) (before : List (Option V)) → LevelTo net alg grain n top l 0 before before
-level_start net alg grain n top l before = record { kept = λ i h. refl; cells = λ target good d u small h. absurd (omega arith) }
 
 pub level_step : {V : Type 0} (net : Net) (alg : Algebra V) (grain n top l v : ℕ) (before xs ys : List (Option V)) → n ≡ net.nodes
     → LevelTo net alg grain n top l v before xs → Kept (slot n top (l + 1) v 0) xs ys

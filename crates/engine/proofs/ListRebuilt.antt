@@ -1,6 +1,6 @@
 -- The list rebuilt from the table, entry by entry.
-use Rattle.std.proofs.Common.{◌≡◌, ℕ, suc, ◌+◌, ◌-◌, ◌*◌, ◌<◌, ◌≤◌, List, [], ◌∷◌, ◌++◌, length, take, drop, set, Some, None, Option, sym, refl, ap, ◌∙◌, subst, ⊎_elim, append_assoc, add-one, arith, take-append-drop, drop-set-lt}
-use Rattle.std.proofs.lemmas.List.{take_more_set, append-nil}
+use Rattle.std.proofs.Common.{◌≡◌, ℕ, suc, ◌+◌, ◌-◌, ◌*◌, ◌<◌, ◌≤◌, List, [], ◌∷◌, ◌++◌, length, take, drop, set, Some, None, Option, sym, refl, ap, ◌∙◌, subst, append_assoc, add-one, arith, take-append-drop, drop-set-lt}
+use Rattle.std.proofs.lemmas.List.{take_more_set, append-nil, drop-drop}
 use Rattle.netmap.specs.Net.{Net, Sound}
 use Rattle.segments.specs.Algebra.{Algebra, Laws, AsGood}
 use Rattle.engine.specs.declared.rebuilding.Found.{Found}
@@ -14,7 +14,6 @@ use Rattle.segments.proofs.SegmentsFunctional.{segments_functional}
 use Rattle.engine.proofs.RebuiltMade.{attains_some}
 use Rattle.segments.proofs.OptionValues.{some_same, none_some}
 use Rattle.segments.proofs.ListExtended.{delay_push}
-use Rattle.keeper.proofs.IndexSplit.{last_or}
 use Rattle.engine.proofs.RowFilled.{segment_below}
 use Rattle.segments.proofs.JoinedValues.{as_good_refl}
 
@@ -72,9 +71,6 @@ module _ {V : Type 0} (net : Net) (alg : Algebra V) (lawful : Laws alg) (grain :
       λ k e. subst (λ j. (a : Attains net alg grain total row p d v j) × (a.leg ≡ f.leg) × (a.rest ≡ f.rest)) (sym e) (t.1, t.2, t.3) in
       let m = moved f.code t.0 in
       record { attains = m.0; leg = m.1; rest = m.2; least = λ b h. least b (omega (arith, h, t.0)); on = t.4; delay = t.5 }
-
-  pub tried_more : ((b : ℕ) → b < code → Attains net alg grain total row p d v b → ⊥) → TriedCode net alg grain total row p d v code None → (b : ℕ) → b < code + 1 → Attains net alg grain total row p d v b → ⊥
-  tried_more below here b h a = ⊎_elim (λ (e : b ≡ code). here (subst (Attains net alg grain total row p d v) e a)) (λ k. below b k a) (last_or b code h)
 
   pub tried_all : ((b : ℕ) → b < code → Attains net alg grain total row p d v b → ⊥) → 512 ≤ code → (c : ℕ) × Attains net alg grain total row p d v c → ⊥
   tried_all below past c = below c.0 (omega (arith, past, segment_below net alg v c.0 c.1.leg c.1.segment)) c.1
@@ -148,11 +144,8 @@ module _ {V : Type 0} (net : Net) (alg : Algebra V) (lawful : Laws alg) (sound :
           rest = drop-set-lt (i + 1) xs i f.code (omega arith) ∙ dropped i xs before inv.rest;
         }
       where
-        tail_of : List ℕ → List ℕ
-        tail_of l = drop 1 l
-
         dropped : (i : ℕ) (xs ys : List ℕ) → drop i xs ≡ drop i ys → drop (i + 1) xs ≡ drop (i + 1) ys
-        dropped i xs ys e = sym (Rattle.std.proofs.lemmas.List.drop-drop 1 i xs) ∙ ap (λ l. drop 1 l) e ∙ Rattle.std.proofs.lemmas.List.drop-drop 1 i ys
+        dropped i xs ys e = sym (drop-drop 1 i xs) ∙ ap (λ l. drop 1 l) e ∙ drop-drop 1 i ys
 
   pub list_end_of : (p : V) (d v i delay : ℕ) (before xs : List ℕ) → RebuiltTo net alg grain top total best sd sv entries p d v i delay before xs → entries ≤ i → Written net alg grain total best sd sv entries delay before xs
   list_end_of p d v i delay before xs inv past =

@@ -55,9 +55,6 @@ module _ {V : Type 0} (net : Net) (alg : Algebra V) (lawful : Laws alg) (grain t
         held : length (take k (drop h.grains xs)) ≡ k
         held = mid_len h.grains (length xs) xs (omega arith)
 
-pub row_start : {V : Type 0} (net : Net) (alg : Algebra V) (grain top v : ℕ) (row : ℕ → ℕ → Option V) (xs : List (Option V)) → ((d : ℕ) → get_or xs d None ≡ None) → RowTo net alg grain top row v 0 xs
-row_start net alg grain top v row xs empty d small = subst (BestOf alg (CandidateTo net alg grain row d v 0)) (sym (empty d)) (λ y k. omega (arith, k.1))
-
 pub segment_below : {V : Type 0} (net : Net) (alg : Algebra V) (v code : ℕ) (h : Leg V) → Segment net alg v code h → code < 512
 segment_below net alg v code h (inl s) = omega (arith, s.range)
 segment_below net alg v code h (inr s) = s.high

@@ -8,7 +8,7 @@ use Rattle.engine.specs.Fronts.{most_grains_of}
 use Rattle.engine.specs.Chosen.{Chosen, LeadOf, Passed, Whole, Before, lead_of}
 use Rattle.segments.proofs.JoinedValues.{as_good_refl}
 use Rattle.segments.proofs.OptionValues.{some_same, none_some}
-use Rattle.engine.proofs.CellsPassed.{passed_split, passed_more, column_passed, column_covered, all_passed, all_covered, none_passed}
+use Rattle.engine.proofs.CellsPassed.{passed_split, passed_more, column_passed, column_covered, all_passed, all_covered}
 
 module _ {V : Type 0} (alg : Algebra V) (best : ℕ → ℕ → Option V) where
   -- the same cells under another name
@@ -77,9 +77,6 @@ module _ {V : Type 0} (alg : Algebra V) (best : ℕ → ℕ → Option V) where
   -- a column is passed
   pub lead_next : (limit d l : ℕ) (o : Option (Choice V)) → limit < l → LeadOf alg best (Passed limit d l) o → LeadOf alg best (Passed limit (d + 1) 0) o
   lead_next limit d l o past = lead_same (Passed limit d l) (Passed limit (d + 1) 0) o (λ m e. column_passed limit d l m e) (λ m e. column_covered limit d l m e past)
-
-  pub lead_first : (limit : ℕ) → LeadOf alg best (Passed limit 0 0) None
-  lead_first limit m e p = absurd (none_passed limit m e p)
 
   pub lead_all : (limit top d : ℕ) (o : Option (Choice V)) → d ≡ top + 1 → LeadOf alg best (Passed limit d 0) o → LeadOf alg best (Whole limit top) o
   lead_all limit top d o past = lead_same (Passed limit d 0) (Whole limit top) o (λ m e. all_passed limit top d m e past) (λ m e. all_covered limit top d m e past)

@@ -53,6 +53,7 @@ impl<M: Map, V: Tariff> SourceCells<'_, '_, M, V> {
     pub(crate) fn choose(&self) -> Option<Choice<V>>
         ensures { LeadOf (algebra V.good V.joining) (cells_at self.now.search.routes.nodes self.now.search.top self.now.table.now self.now.source) (Whole self.now.limit self.now.search.top) result }
     {
+        // a `fold` would need the loop's invariant as clauses of its closure, and be longer
         let mut best = None;
         for d in 0..self.search.top + 1 {
             best = self.choose_at(d, best);

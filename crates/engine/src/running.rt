@@ -64,7 +64,7 @@ pub fn run<M: Map, V: Tariff>(map: &mut M, steps: &mut [Step<V>], work: &mut Wor
     ensures runs { Runs (algebra V.good V.joining) (room_in work.old) (M.meaning map.old) steps.old steps.new (M.meaning map.new) }
     ensures same { SameSlices work.old work.new }
 {
-    for s in steps.iter_mut() {
-        perform(map, s, work);
+    for step in steps.iter_mut() {
+        perform(map, step, work);
     }
 }

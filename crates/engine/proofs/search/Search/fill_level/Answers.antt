@@ -1,45 +1,10 @@
-use Rattle.std.proofs.Common.{◌≡◌, ◌+◌, ◌≤◌, length, drop, sym, ◌∙◌, subst, arith}
+use Rattle.std.proofs.Common.{◌≡◌, ◌+◌, ◌≤◌, length, drop, ◌∙◌, subst, arith}
 use Rattle.std.proofs.lemmas.List.{length-take-le}
 use Rattle.segments.specs.Algebra.{algebra}
 use Rattle.engine.specs.Cells.{LevelTo}
-use Rattle.engine.proofs.CellPlaces.{slot_end, level_first}
-use Rattle.engine.proofs.LevelsFilled.{level_start, level_more}
+use Rattle.engine.proofs.CellPlaces.{slot_end}
+use Rattle.engine.proofs.LevelsFilled.{level_more}
 use Rattle.engine.proofs.search.Search.fill_level.Goals as goal
-
-pub loop-v-init : goal.loop-v-init
-loop-v-init g c = level_start (g.M.Map.meaning c.args.self.now.routes.map.now) (algebra g.V.Ranking.good g.V.Tariff.joining) c.args.self.now.grain.length.0 c.args.self.now.routes.nodes c.args.self.now.top c.args.l c.args.table.now
-
-pub slice_bounds-fill_row-end : goal.slice_bounds-fill_row-end
-slice_bounds-fill_row-end g c =
-    let n = c.args.self.now.routes.nodes in
-    let top = c.args.self.now.top in
-    let l = c.args.l in
-    let v = c.loop-v.v in
-    omega (arith, c.place.ensures, slot_end n top (l + 1) v top (l + 2) (omega arith) c.loop-v-test.true (omega arith), c.requires.room, c.loop-v.auto.table, c.split_at_mut-below.ensures.back_len)
-
-pub slice_bounds-fill_row-end-in-loop-v : goal.slice_bounds-fill_row-end-in-loop-v
-slice_bounds-fill_row-end-in-loop-v g c =
-    let n = c.args.self.now.routes.nodes in
-    let top = c.args.self.now.top in
-    let l = c.args.l in
-    let v = c.loop-v.v in
-    let room : top + 1 ≤ length c.split_at_mut-below.result.1.now = omega (arith, c.place.ensures, slot_end n top (l + 1) v top (l + 2) (omega arith) c.loop-v-test.true (omega arith), c.requires.room, c.loop-v.auto.table, c.split_at_mut-below.ensures.back_len) in
-    sym (length-take-le (top + 1) c.split_at_mut-below.result.1.now room)
-
-pub fill_row-requires : goal.fill_row-requires
-fill_row-requires g c =
-    let n = c.args.self.now.routes.nodes in
-    let top = c.args.self.now.top in
-    let l = c.args.l in
-    let v = c.loop-v.v in
-    let room : top + 1 ≤ length c.split_at_mut-below.result.1.now = omega (arith, c.place.ensures, slot_end n top (l + 1) v top (l + 2) (omega arith) c.loop-v-test.true (omega arith), c.requires.room, c.loop-v.auto.table, c.split_at_mut-below.ensures.back_len) in
-    record {
-      routed = c.requires.routed;
-      labels = omega (arith, c.requires.labels);
-      node = c.loop-v-test.true;
-      room = omega (arith, c.place.ensures, level_first n top (l + 1) v, c.split_at_mut-below.ensures.front_len);
-      long = length-take-le (top + 1) c.split_at_mut-below.result.1.now room;
-    }
 
 pub loop-v-preserved : goal.loop-v-preserved
 loop-v-preserved g c =
