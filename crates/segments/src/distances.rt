@@ -46,8 +46,8 @@ fn carry_over<V: Tariff>(cells: usize, dist: &[Option<u32>], spread: &mut [Optio
     requires space { cells ≤ length spread.old }
     ensures { Same cells dist.now (delays spread.new) }
 {
-    for i in 0..cells {
-        spread[i] = keep(dist[i]);
+    for (i, distance) in dist[..cells].iter().enumerate() {
+        spread[i] = keep(*distance);
     }
 }
 
@@ -125,8 +125,8 @@ fn take_over<V: Tariff>(cells: usize, dist: &mut [Option<u32>], spread: &[Option
     requires space { cells ≤ length spread.now }
     ensures { Same cells dist.new (delays spread.now) }
 {
-    for i in 0..cells {
-        dist[i] = kept(spread[i]);
+    for (i, slot) in spread[..cells].iter().enumerate() {
+        dist[i] = kept(*slot);
     }
 }
 
