@@ -25,6 +25,3 @@ module _ (limit top d m e : ℕ) (past : d ≡ top + 1) where
 
   pub all_covered : Whole limit top m e → Passed limit d 0 m e
   all_covered p = (p.0, inl (omega (arith, p.1, past)))
-
-pub none_passed : (limit m e : ℕ) → Passed limit 0 0 m e → ⊥
-none_passed limit m e p = ⊎_elim (λ (h : e < 0). omega arith) (λ (h : (e ≡ 0) × (m < 0)). omega (arith, h.1)) p.1

@@ -30,5 +30,5 @@ pub mod SimplePaths
 pub mod TableSlots
 pub mod TightLinks
 pub mod TightTest
-pub mod WalkAdmitted
+pub mod WalkGranted
 pub mod WalkSteps

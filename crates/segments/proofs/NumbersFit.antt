@@ -6,6 +6,3 @@ fits_sum w x h k = search rules
 
 pub fits_key : (k : ℕ) → k < 264237184 → Fits w64 (k + 1)
 fits_key k h = search rules
-
-pub fits_grains : (a b : ℕ) → a ≤ 63000000 → b ≤ 6300000 → Fits w32 (a + b)
-fits_grains a b h k = search rules

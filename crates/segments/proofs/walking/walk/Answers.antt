@@ -1,7 +1,7 @@
 use Rattle.std.proofs.Common.{subst}
 use Rattle.segments.specs.Algebra.{algebra}
 use Rattle.segments.specs.Walks.{WalkReply}
-use Rattle.segments.proofs.WalkAdmitted.{walk_granted}
+use Rattle.segments.proofs.WalkGranted.{walk_granted}
 use Rattle.segments.proofs.walking.walk.Goals as goal
 
 pub returns : goal.returns
