@@ -89,6 +89,7 @@ impl<'a> Net<'a> {
             places,
             routes: BTreeMap::new(heap),
         };
+        // nodes are numbers
         for from in 0..nodes {
             let chains = net.chains_from(heap, from)?;
             net.add_routes(from, &chains)?;

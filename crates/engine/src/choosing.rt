@@ -34,6 +34,7 @@ impl<M: Map, V: Tariff> SourceCells<'_, '_, M, V> {
         ensures { LeadOf (algebra V.good V.joining) (cells_at self.now.search.routes.nodes self.now.search.top self.now.table.now self.now.source) (Passed self.now.limit (d + 1) 0) result }
     {
         let mut first = best;
+        // the number of entries is a part of the choice
         for l in 0..self.limit + 1 {
             if let Some(value) = self.read(l, self.source, d) {
                 first = Some(lead(

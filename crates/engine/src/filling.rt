@@ -22,6 +22,7 @@ impl<M: Map, V: Tariff> Search<'_, M, V> {
         ensures { (target : ℕ) → Row (M.meaning self.now.routes.map.now) (algebra V.good V.joining) self.now.grain.length.0 target self.now.top l (best_of self.now.routes.nodes self.now.top below.now l) → (d : ℕ) → d ≤ self.now.top → Cell (M.meaning self.now.routes.map.now) (algebra V.good V.joining) self.now.grain.length.0 target (l + 1) d v (slice_index_or row.new d None) }
     {
         row.fill(None);
+        // codes are numbers
         for code in 0..CODES {
             if let Some(hop) = self.hop(v, code) {
                 if hop.grains <= self.top {
@@ -39,6 +40,7 @@ impl<M: Map, V: Tariff> Search<'_, M, V> {
         requires room { (l + 2) * self.now.routes.nodes * (self.now.top + 1) ≤ length table.old }
         ensures { LevelTo (M.meaning self.now.routes.map.now) (algebra V.good V.joining) self.now.grain.length.0 self.now.routes.nodes self.now.top l self.now.routes.nodes table.old table.new }
     {
+        // a node's number gives its row
         for v in 0..self.routes.nodes {
             let (below, rest) = table.split_at_mut(self.place(l + 1, v, 0));
             self.fill_row(l, v, below, &mut rest[..self.top + 1]);
@@ -64,6 +66,7 @@ impl<M: Map, V: Tariff> Search<'_, M, V> {
         ensures { FilledTo (M.meaning self.now.routes.map.now) (algebra V.good V.joining) self.now.grain.length.0 target self.now.routes.nodes self.now.top limit table.new }
     {
         self.fill_first(target, table);
+        // a level is known by its number of entries
         for l in 0..limit {
             self.fill_level(l, table);
         }

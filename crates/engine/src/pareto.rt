@@ -25,6 +25,7 @@ impl<M, V: Ranking> SourceCells<'_, '_, M, V> {
         requires gathered { Gathered V.good (cells_at self.now.search.routes.nodes self.now.search.top self.now.table.now self.now.source) (Passed self.now.limit d 0) slots.old }
         ensures { Gathered V.good (cells_at self.now.search.routes.nodes self.now.search.top self.now.table.now self.now.source) (Passed self.now.limit (d + 1) 0) slots.new }
     {
+        // a cell is read by its numbers of entries and of grains
         for l in 0..self.limit + 1 {
             if let Some(value) = self.read(l, self.source, d) {
                 let _ = offer(slots, Grains(d as u32), value);
@@ -38,6 +39,7 @@ impl<M, V: Ranking> SourceCells<'_, '_, M, V> {
         ensures { Gathered V.good (cells_at self.now.search.routes.nodes self.now.search.top self.now.table.now self.now.source) (Whole self.now.limit self.now.search.top) slots.new }
     {
         empty_slots(slots);
+        // a pair is offered with its number of grains
         for d in 0..self.search.top + 1 {
             self.offer_column(d, slots);
         }

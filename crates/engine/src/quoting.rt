@@ -54,6 +54,7 @@ impl<M: Map, V: Tariff> Search<'_, M, V> {
 }
 
 // The search of a quote, for an order whose questions are all answered yes.
+// It begins as `search_front` does: a function for those lines would need more clauses than they are.
 fn search_list<M: Map, V: Tariff>(
     map: &M,
     order: Order,

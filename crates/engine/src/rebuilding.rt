@@ -78,6 +78,7 @@ impl<M: Map, V: Tariff> SourceCells<'_, '_, M, V> {
         let mut d = choice.grains;
         let mut prefix = V::neutral();
         let mut delay: u32 = 0;
+        // an entry's place in the list tells how many are left
         for i in 0..choice.entries {
             let rest = Prefix {
                 value: prefix,

@@ -15,6 +15,7 @@ fn start_distances(n: usize, dist: &mut [Option<u32>])
     ensures { Started n dist.new }
 {
     dist[..n * n].fill(None);
+    // a node's number gives its slot
     for u in 0..n {
         dist[u * n + u] = Some(0);
     }
@@ -76,6 +77,7 @@ fn sweep<V: Tariff>(n: usize, dist: &[Option<u32>], spread: &mut [Option<Spread<
     requires known { AllKnown n dist.now }
     ensures { Swept n link dist.now (delays spread.old) (delays spread.new) }
 {
+    // a node's number gives its slot in both rows
     for v in 0..n {
         let slot = link.tail as usize * n + v;
         let rest = dist[link.head as usize * n + v];
@@ -98,6 +100,7 @@ fn round<M: Map, V: Tariff>(
     ensures { Round (M.meaning map.now) n dist.now (delays spread.new) }
 {
     carry_over(n * n, dist, spread);
+    // a map is asked for its links by their places' numbers
     for place in 0..map.places() {
         if let Some(link) = held(map, place) {
             sweep(n, dist, spread, link);
@@ -145,6 +148,7 @@ pub(crate) fn find_distances<M: Map, V: Tariff>(
     ensures rounds { Rounds (M.meaning map.now) result }
 {
     start_distances(n, dist);
+    // the number of the round is a part of the answer
     for k in 0..n {
         round(map, n, dist, spread);
         if is_settled(&dist[..n * n], &spread[..n * n]) {

@@ -9,11 +9,14 @@ use netmap::{Link, Map, Microseconds, held};
 use tariff::Tariff;
 
 // A map with the distances of all pairs of its nodes.
-#[derive_where(Clone, Copy)]
+// That they are its distances is a clause of each call, as for `Routes`.
+#[derive(Drop)]
 pub(crate) struct Distances<'a, M> {
     pub(crate) map: &'a M,
     pub(crate) nodes: usize,
     pub(crate) slots: &'a [Option<u32>],
+    ghost few: { nodes ≤ 64 },
+    ghost sized: { nodes * nodes ≤ length slots.now },
 }
 
 // The larger delay and the worse value.
@@ -55,8 +58,6 @@ fn lesser(least: Option<usize>, next: usize) -> usize
 impl<'a, M: Map> Distances<'a, M> {
     // From u to v, if there is a path.
     fn between(&self, u: usize, v: usize) -> Option<u32>
-        requires few { self.now.nodes ≤ 64 }
-        requires sized { self.now.nodes * self.now.nodes ≤ length self.now.slots.now }
         requires from { u < self.now.nodes }
         requires to { v < self.now.nodes }
         ensures { result ≡ table_of self.now.nodes self.now.slots.now u v }
@@ -119,6 +120,7 @@ impl<'a, M: Map> Distances<'a, M> {
         ensures { FiguresOf (M.meaning self.now.map.now) (algebra V.good V.joining) u v result }
     {
         let mut found = None;
+        // a map is asked for its links by their places' numbers
         for place in 0..self.map.places() {
             if let Some(way) = self.way(spread, u, v, place) {
                 found = Some(worse(found, way));
@@ -151,13 +153,13 @@ impl<'a, M: Map> Distances<'a, M> {
     }
 
     // Nodes are keyed by their distance to v, and by their number where that is equal: the least key from bar on.
+    // A key is one number, so that the bar is the next key, and its rise shows that a loop over keys ends.
     fn nearest_key(&self, v: usize, bar: usize) -> Option<usize>
-        requires few { self.now.nodes ≤ 64 }
-        requires sized { self.now.nodes * self.now.nodes ≤ length self.now.slots.now }
         requires to { v < self.now.nodes }
         ensures { LeastOf (Keyed self.now.nodes self.now.slots.now v bar) result }
     {
         let mut least: Option<usize> = None;
+        // a key is made of the node's number
         for u in 0..self.nodes {
             if let Some(far) = self.between(u, v) {
                 let key = far as usize * self.nodes + u;
@@ -194,6 +196,7 @@ impl<'a, M: Map> Distances<'a, M> {
         requires empty { AllEmpty self.now.nodes self.now.slots.now spread.old }
         ensures { Figured (M.meaning self.now.map.now) (algebra V.good V.joining) self.now.nodes spread.new }
     {
+        // a node's number gives its column
         for v in 0..self.nodes {
             self.fill_column(spread, v);
         }

@@ -14,7 +14,7 @@ use tariff::Tariff;
 
 const MAX_ENTRIES: usize = 10;
 
-// Asks of the source, the grain, the lengths of the working slices and that of the list.
+// Asks of the source, the grain, the lengths of the working slices and that of the list: of lengths, since no question is about what they hold.
 fn check_walk(
     n: usize,
     source: u8,
