@@ -3,6 +3,7 @@ use Rattle.std.specs.Prelude.{◌≡◌, ℕ, ◌+◌, ◌*◌, ◌<◌, ◌≤�
 use Rattle.netmap.specs.declared.link.Link.{Link}
 use Rattle.netmap.specs.Net.{Net, link_at}
 use Rattle.segments.specs.declared.figures.Spread.{Spread}
+use Rattle.segments.specs.declared.near.Near.{Near}
 use Rattle.segments.specs.Algebra.{Algebra}
 use Rattle.segments.specs.Distances.{table_of}
 use Rattle.segments.specs.Paths.{Reached, Tight, Ecmp}
@@ -12,13 +13,30 @@ abbrev pub TightAt : Net → ℕ → ℕ → ℕ → Option Link → Type 0
 TightAt net u v p (Some l) = (link_at net p ≡ Some l) × Tight net u v l
 TightAt net u v p None = (l : Link) → link_at net p ≡ Some l → Tight net u v l → ⊥
 
--- a node with a distance to v, by that distance and then by its number
+-- a node and its distance as one number, which the order of both gives: no network has more than 64 nodes
+abbrev pub rank : Near → ℕ
+rank k = k.far * 64 + k.node
+
+abbrev pub rank_of : Option Near → Option ℕ
+rank_of None = None
+rank_of (Some k) = Some (rank k)
+
+-- the rank from which nodes come after the last one, if there was one
+abbrev pub bar_of : Option Near → ℕ
+bar_of None = 0
+bar_of (Some k) = rank k + 1
+
+abbrev pub InNet : Option Near → Type 0
+InNet None = Unit {0}
+InNet (Some k) = k.node < 64
+
+-- a node with a distance to v, by its rank
 pub record Keyed (n : ℕ) (xs : List (Option ℕ)) (v bar key : ℕ) : Type 0 where
   pub node : ℕ
   pub below : node < n
   pub far : ℕ
   pub at : table_of n xs node v ≡ Some far
-  pub is : far * n + node ≡ key
+  pub is : far * 64 + node ≡ key
   pub from : bar ≤ key
 
 module _ {V : Type 0} where

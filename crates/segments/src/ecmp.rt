@@ -1,10 +1,11 @@
 // The figures of node segments, over all best paths (ECMP).
-ghost use Rattle.std.specs.Prelude.{◌≡◌, ◌*◌, ◌<◌, ◌≤◌, length, ◌≢◌};
+ghost use Rattle.std.specs.Prelude.{◌≡◌, ◌*◌, ◌<◌, ◌+◌, ◌≤◌, true, false, length, ◌≢◌};
 ghost use Rattle.segments.specs.Algebra.{algebra};
 ghost use Rattle.segments.specs.Distances.{LeastOf, Measured, lesser_of, table_of};
-ghost use Rattle.segments.specs.Spreads.{TightAt, WayAt, FiguresOf, HeadsFigured, ColumnFigured, Figured, Keyed, Spared, EmptyAt, AllEmpty, onward, worse_of};
+ghost use Rattle.segments.specs.Spreads.{TightAt, WayAt, FiguresOf, HeadsFigured, ColumnFigured, Figured, InNet, Keyed, Spared, EmptyAt, AllEmpty, bar_of, onward, rank, rank_of, worse_of};
 
 use crate::figures::{Spread, read_slot, write_slot};
+use crate::near::Near;
 use netmap::{Link, Map, Microseconds, held};
 use tariff::Tariff;
 
@@ -48,9 +49,22 @@ fn go_on<V: Tariff>(link: Link, rest: Spread<V>) -> Spread<V>
     }
 }
 
-// The lesser of a number, if there is one, and another.
-fn lesser(least: Option<usize>, next: usize) -> usize
-    ensures { result ≡ lesser_of least next }
+// Does a node come after the last one, if there was one?
+fn follows(last: Option<Near>, next: Near) -> bool
+    requires last { InNet last }
+    requires next { next.node < 64 }
+    ensures yes { result ≡ true → bar_of last ≤ rank next }
+    ensures no { result ≡ false → rank next < bar_of last }
+{
+    last.is_none_or(|last| last < next)
+}
+
+// The first of what there is and another.
+fn nearer(least: Option<Near>, next: Near) -> Near
+    requires least { InNet least }
+    requires next { next.node < 64 }
+    ensures rank { rank result ≡ lesser_of (rank_of least) (rank next) }
+    ensures node { result.node < 64 }
 {
     least.map_or(next, |least| least.min(next))
 }
@@ -152,19 +166,20 @@ impl<'a, M: Map> Distances<'a, M> {
         })
     }
 
-    // Nodes are keyed by their distance to v, and by their number where that is equal: the least key from bar on.
-    // A key is one number, so that the bar is the next key, and its rise shows that a loop over keys ends.
-    fn nearest_key(&self, v: usize, bar: usize) -> Option<usize>
+    // The nearest node to v after the last one, and of those as near the first by number.
+    fn nearest(&self, v: usize, last: Option<Near>) -> Option<Near>
         requires to { v < self.now.nodes }
-        ensures { LeastOf (Keyed self.now.nodes self.now.slots.now v bar) result }
+        requires last { InNet last }
+        ensures least { LeastOf (Keyed self.now.nodes self.now.slots.now v (bar_of last)) (rank_of result) }
+        ensures node { InNet result }
     {
-        let mut least: Option<usize> = None;
-        // a key is made of the node's number
-        for u in 0..self.nodes {
-            if let Some(far) = self.between(u, v) {
-                let key = far as usize * self.nodes + u;
-                if key >= bar {
-                    least = Some(lesser(least, key));
+        let mut least = None;
+        // a node's number is a part of what is looked for
+        for node in 0..self.nodes {
+            if let Some(far) = self.between(node, v) {
+                let near = Near { far, node };
+                if follows(last, near) {
+                    least = Some(nearer(least, near));
                 }
             }
         }
@@ -180,12 +195,11 @@ impl<'a, M: Map> Distances<'a, M> {
         ensures done { ColumnFigured (M.meaning self.now.map.now) (algebra V.good V.joining) self.now.nodes spread.new v }
         ensures spared { Spared self.now.nodes v spread.old spread.new }
     {
-        let mut bar = 0;
-        while let Some(key) = self.nearest_key(v, bar) {
-            let u = key % self.nodes;
-            let figures = self.figures_between(spread, u, v);
-            write_slot(spread, u * self.nodes + v, figures);
-            bar = key + 1;
+        let mut last = None;
+        while let Some(near) = self.nearest(v, last) {
+            let figures = self.figures_between(spread, near.node, v);
+            write_slot(spread, near.node * self.nodes + v, figures);
+            last = Some(near);
         }
     }
 

@@ -5,6 +5,7 @@ mod distances;
 mod ecmp;
 pub mod entry;
 pub mod figures;
+mod near;
 pub mod order;
 pub mod routing;
 pub mod theorems;
