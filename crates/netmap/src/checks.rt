@@ -22,7 +22,7 @@ pub(crate) fn check_link(nodes: usize, link: Link, place: usize) -> Result<(), D
     if link.weight == 0 {
         return Err(Denial::new(Question::WeightPositive, Layer::Map, place));
     }
-    if link.delay.0 > MAX_DELAY.0 {
+    if link.delay > MAX_DELAY {
         return Err(Denial::new(Question::DelayLimit, Layer::Map, place));
     }
     if link.figure > MAX_FIGURE {

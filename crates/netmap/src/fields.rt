@@ -37,6 +37,7 @@ fn link_of(ends: &[u8], figures: &[u8]) -> Link
 }
 
 // The fields of a place, whatever they hold.
+// It asks of the bytes and of the place what `read_place` and `write_place` ask; the bytes are lent to be read here, and there to be written.
 fn read_link(bytes: &[u8], places: usize, place: usize) -> Link
     requires within { place < places }
     requires room { image_size places ≤ length bytes.now }

@@ -17,6 +17,7 @@ pub fn store<M: Map>(map: &M, space: &mut [u8]) -> Result<usize, Denial>
     ensures reopens { IfOk result (λ size. OpensAs (take size space.new) (M.meaning map.now)) }
 {
     let sizes = Sizes::of(map);
+    // a method of `Sizes` would need the bound on places, which the header's check gives only afterwards
     let size = 4 + 12 * sizes.places;
     if space.len() < size {
         return Err(Denial::new(Question::StoreSpace, Layer::File, space.len()));

@@ -66,7 +66,7 @@ pub enum Question {
 // What a denial's place counts.
 #[derive(Clone, Copy, PartialEq, Eq, Debug)]
 pub enum Layer {
-    // a place of the map; 0 for the map's sizes
+    // a place of the map; 0 for the map's sizes, as the line of a refusal has three fields always
     Map,
     // an entry of a segment list, by its index
     List,
@@ -104,6 +104,7 @@ impl Question {
 }
 
 impl Layer {
+    // A `Display` would only print this text again.
     pub fn text(self) -> &'static str
         ensures { result.now ≡ layer_text self }
     {

@@ -1,5 +1,6 @@
 // Distances of all pairs of nodes, by rounds of relaxation (Bellman and Ford).
-// A round reads the first working slice and writes the second, which keeps each new distance where a delay will stand.
+// A round reads the first working slice and writes the second, which keeps each new distance where a delay will stand: no third is lent.
+// Their lengths are clauses of each function, since a slice in the field of a lent struct cannot be lent again to be read.
 ghost use Rattle.std.specs.Prelude.{◌≡◌, ◌*◌, ◌<◌, ◌≤◌, true, false, length};
 ghost use Rattle.segments.specs.Distances.{AllKnown, Known, Same, Measured, delay_in, delays};
 ghost use Rattle.segments.specs.Relaxations.{Round, Started, Swept, Rounds, nearer};
@@ -25,13 +26,10 @@ fn start_distances(n: usize, dist: &mut [Option<u32>])
 fn keep<V: Tariff>(distance: Option<u32>) -> Option<Spread<V>>
     ensures { delay_in result ≡ distance }
 {
-    match distance {
-        None => None,
-        Some(distance) => Some(Spread {
-            delay: Microseconds(distance),
-            value: V::neutral(),
-        }),
-    }
+    distance.map(|distance| Spread {
+        delay: Microseconds(distance),
+        value: V::neutral(),
+    })
 }
 
 // The distance that a slot of the second working slice keeps.
@@ -47,13 +45,14 @@ fn carry_over<V: Tariff>(cells: usize, dist: &[Option<u32>], spread: &mut [Optio
     requires space { cells ≤ length spread.old }
     ensures { Same cells dist.now (delays spread.new) }
 {
+    // by index, since nothing is known of what a zip of `iter_mut` wrote
     for (i, distance) in dist[..cells].iter().enumerate() {
         spread[i] = keep(*distance);
     }
 }
 
 // The lesser of what there is and a weight with the distance behind it.
-fn nearer(best: Option<u32>, weight: u16, rest: Option<u32>) -> Option<u32>
+fn shorter(best: Option<u32>, weight: u16, rest: Option<u32>) -> Option<u32>
     requires { Known rest }
     ensures { result ≡ nearer best weight rest }
 {
@@ -81,7 +80,7 @@ fn sweep<V: Tariff>(n: usize, dist: &[Option<u32>], spread: &mut [Option<Spread<
     for v in 0..n {
         let slot = link.tail as usize * n + v;
         let rest = dist[link.head as usize * n + v];
-        let best = nearer(kept(read_slot(spread, slot)), link.weight, rest);
+        let best = shorter(kept(read_slot(spread, slot)), link.weight, rest);
         write_slot(spread, slot, keep(best));
     }
 }
@@ -114,6 +113,7 @@ fn is_settled<V: Tariff>(dist: &[Option<u32>], spread: &[Option<Spread<V>>]) -> 
     ensures yes { result ≡ true → Same (length dist.now) dist.now (delays spread.now) }
     ensures no { result ≡ false → Same (length dist.now) dist.now (delays spread.now) → ⊥ }
 {
+    // `all` would have the same to prove, of its closure
     for (distance, slot) in dist.iter().zip(spread) {
         if *distance != kept(*slot) {
             return false;
@@ -128,12 +128,13 @@ fn take_over<V: Tariff>(cells: usize, dist: &mut [Option<u32>], spread: &[Option
     requires space { cells ≤ length spread.now }
     ensures { Same cells dist.new (delays spread.now) }
 {
+    // by index, as in `carry_over`, which goes the other way
     for (i, slot) in spread[..cells].iter().enumerate() {
         dist[i] = kept(*slot);
     }
 }
 
-// The distances of all pairs of nodes into both slices, and how many rounds found them.
+// The distances of all pairs of nodes into both slices, and how many rounds found them, which no call reports yet.
 pub(crate) fn find_distances<M: Map, V: Tariff>(
     map: &M,
     n: usize,

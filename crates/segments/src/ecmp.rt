@@ -20,7 +20,7 @@ pub(crate) struct Distances<'a, M> {
     ghost sized: { nodes * nodes ≤ length slots.now },
 }
 
-// The larger delay and the worse value.
+// The larger delay and the worse value: of each the better of two stays by a rule of its own, here and in `nearer`.
 fn worse<V: Tariff>(found: Option<Spread<V>>, next: Spread<V>) -> Spread<V>
     ensures { result ≡ worse_of (algebra V.good V.joining) found next }
 {
@@ -28,7 +28,7 @@ fn worse<V: Tariff>(found: Option<Spread<V>>, next: Spread<V>) -> Spread<V>
         return next;
     };
     Spread {
-        delay: Microseconds(found.delay.0.max(next.delay.0)),
+        delay: found.delay.max(next.delay),
         value: if found.value.as_good(next.value) {
             next.value
         } else {

@@ -6,7 +6,7 @@ use netmap::Microseconds;
 use tariff::Tariff;
 
 // What an entry does at a node where it is legal: the node that it leads to, its delay and its value.
-#[derive(Clone, Copy)]
+#[derive(Clone, Copy, PartialEq, Eq, Debug)]
 pub struct Leg<V> {
     pub to: u8,
     pub delay: Microseconds,
@@ -14,14 +14,14 @@ pub struct Leg<V> {
 }
 
 // What traffic to a node may meet: over all best paths, the largest delay and the worst value.
-#[derive(Clone, Copy)]
+#[derive(Clone, Copy, PartialEq, Eq, Debug)]
 pub struct Spread<V> {
     pub delay: Microseconds,
     pub value: V,
 }
 
 // The figures of a segment list: its value, its delay in grains and in microseconds, and its labels.
-#[derive(Clone, Copy)]
+#[derive(Clone, Copy, PartialEq, Eq, Debug)]
 pub struct Figures<V> {
     pub value: V,
     pub grains: Grains,
@@ -30,7 +30,7 @@ pub struct Figures<V> {
 }
 
 // Where a walked list ends, and its figures.
-#[derive(Clone, Copy)]
+#[derive(Clone, Copy, PartialEq, Eq, Debug)]
 pub struct Walk<V> {
     pub end: u8,
     pub figures: Figures<V>,

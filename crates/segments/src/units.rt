@@ -5,11 +5,11 @@ ghost use Rattle.segments.specs.Segments.{grains_of};
 use netmap::Microseconds;
 
 // A delay in grains, the steps to which the delay of each entry is rounded up.
-#[derive(Clone, Copy, PartialEq, Eq, Debug)]
+#[derive(Clone, Copy, PartialEq, Eq, PartialOrd, Ord, Debug)]
 pub struct Grains(pub u32);
 
 // Entries of a segment list, each of which is a label of the packet.
-#[derive(Clone, Copy, PartialEq, Eq, Debug)]
+#[derive(Clone, Copy, PartialEq, Eq, PartialOrd, Ord, Debug)]
 pub struct Labels(pub u16);
 
 // The length of a grain, which is at least a microsecond.
@@ -28,7 +28,7 @@ impl Grain {
         ensures range { is_some result ≡ (nat_le 1 length.0 && nat_le length.0 10000) }
         ensures same { IfSome result (λ grain. grain.length ≡ length) }
     {
-        if length.0 < 1 || length.0 > Self::LONGEST.0 {
+        if length < Microseconds(1) || length > Self::LONGEST {
             return None;
         }
         Some(Grain { length })

@@ -18,5 +18,5 @@ loop-v-preserved g c =
     let nv = c.loop-v-test.true in
     let within = lt_of_lt_of_le (digits_lt c.requires.tail nv) (subst (λ m. n * n ≤ m) (sym c.loop-v.auto.spread) c.requires.space) in
     let was = c.kept.ensures ∙ ap delay_in c.read_slot.ensures ∙ sym (delays_read xs i within) in
-    let is = c.keep.ensures ∙ c.nearer-best.ensures ∙ ap (λ m. nearer m l.weight (cell old (l.head * n + v))) was in
+    let is = c.keep.ensures ∙ c.shorter-best.ensures ∙ ap (λ m. nearer m l.weight (cell old (l.head * n + v))) was in
     subst (λ ys. SweptTo n l old new (delays ys) (v + 1)) (sym c.write_slot.ensures) (swept_more n l old new v xs nv c.loop-v.invariant c.keep.result within is)
