@@ -1,8 +1,8 @@
 // The questions that a quote and a front both ask of an order.
 ghost use Rattle.std.specs.Prelude.{◌≡◌, ◌+◌, ◌*◌, ◌≤◌, ◌&&◌, nat_le, Some, None, MatchResult};
 ghost use Rattle.engine.specs.Calls.{room_in, order_denial};
-ghost use Rattle.engine.specs.Fronts.{most_grains_of};
 
+use crate::terms::Terms;
 use crate::workspace::Workspace;
 use netmap::Map;
 use questions::{Denial, Layer, Question};
@@ -42,24 +42,17 @@ impl Room {
     }
 }
 
-// What an order comes to once its questions are answered yes: its grain, and the largest number of grains within its bound.
-#[derive(Clone, Copy)]
-pub(crate) struct Terms {
-    pub grain: Grain,
-    pub top: usize,
-}
-
-// Asks of the nodes, the label limit, the grain, the bound and the working slices.
+// Asks of the nodes, the label limit, the grain, the bound and the working slices. `walk` asks less, and of no order.
 pub(crate) fn check_order<M: Map>(map: &M, order: Order, room: Room) -> Result<Terms, Denial>
     ensures { MatchResult result
-        (λ t. (order_denial (M.meaning map.now) order room ≡ None) × (t.grain.length ≡ order.grain) × (t.top ≡ most_grains_of order))
+        (λ t. (order_denial (M.meaning map.now) order room ≡ None) × (t.order ≡ order))
         (λ d. order_denial (M.meaning map.now) order room ≡ Some d) }
 {
     let n = map.nodes();
     if order.source as usize >= n || order.target as usize >= n {
         return Err(Denial::new(Question::OrderNodes, Layer::Order, order.index));
     }
-    if order.limit.0 < 1 || order.limit.0 > MAX_LIMIT.0 {
+    if order.limit < Labels(1) || order.limit > MAX_LIMIT {
         return Err(Denial::new(Question::LabelLimit, Layer::Order, order.index));
     }
     let Some(grain) = Grain::new(order.grain) else {
@@ -72,5 +65,5 @@ pub(crate) fn check_order<M: Map>(map: &M, order: Order, room: Room) -> Result<T
     if !room.holds(n, order.limit.0 as usize, top) {
         return Err(Denial::new(Question::WorkingSpace, Layer::Order, order.index));
     }
-    Ok(Terms { grain, top })
+    Ok(Terms { order, grain, top })
 }

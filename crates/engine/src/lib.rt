@@ -12,6 +12,7 @@ mod rebuilding;
 pub mod running;
 mod search;
 mod table;
+mod terms;
 pub mod theorems;
 pub mod workspace;
 

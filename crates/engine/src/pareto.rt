@@ -4,12 +4,13 @@ ghost use Rattle.segments.specs.Algebra.{algebra};
 ghost use Rattle.engine.specs.Calls.{room_of, room_in, held_in, SameSlices, Untouched, FrontCall, order_denial};
 ghost use Rattle.engine.specs.Cells.{cells_at};
 ghost use Rattle.engine.specs.Chosen.{Passed, Whole};
-ghost use Rattle.engine.specs.Fronts.{held as held_count, most_grains_of};
+ghost use Rattle.engine.specs.Fronts.{held as held_count};
 ghost use Rattle.engine.specs.Offers.{Gathered};
 
 use crate::cells::SourceCells;
-use crate::checks::{Room, Terms, check_order};
+use crate::checks::{Room, check_order};
 use crate::search::Search;
+use crate::terms::Terms;
 use crate::workspace::Workspace;
 use keeper::{empty_slots, offer};
 use netmap::Map;
@@ -56,33 +57,30 @@ fn count_held<V: Ranking>(slots: &[Option<V>]) -> usize
 // The search of a front, for an order whose questions are all answered yes.
 fn search_front<M: Map, V: Tariff>(
     map: &M,
-    order: Order,
     terms: Terms,
     dist: &mut [Option<u32>],
     spread: &mut [Option<Spread<V>>],
     table: &mut [Option<V>],
     slots: &mut [Option<V>],
 ) -> usize
-    requires granted { order_denial (M.meaning map.now) order (room_of dist.old spread.old table.old) ≡ None }
-    requires grain { terms.grain.length ≡ order.grain }
-    requires top { terms.top ≡ most_grains_of order }
+    requires granted { order_denial (M.meaning map.now) terms.order (room_of dist.old spread.old table.old) ≡ None }
     requires space { terms.top + 1 ≤ length slots.old }
-    ensures { FrontCall (M.meaning map.now) (algebra V.good V.joining) order (room_of dist.old spread.old table.old) slots.old slots.new (Ok result) }
+    ensures { FrontCall (M.meaning map.now) (algebra V.good V.joining) terms.order (room_of dist.old spread.old table.old) slots.old slots.new (Ok result) }
 {
     let nodes = map.nodes();
-    let limit = order.limit.0 as usize;
+    let limit = terms.order.limit.0 as usize;
     route(map, nodes, dist, spread);
     let search = Search {
         routes: Routes { map, nodes, spread },
         grain: terms.grain,
         top: terms.top,
     };
-    search.fill(limit, order.target as usize, table);
+    search.fill(limit, terms.order.target as usize, table);
     let cells = SourceCells {
         search,
         table,
         limit,
-        source: order.source as usize,
+        source: terms.order.source as usize,
     };
     let part = &mut slots[..terms.top + 1];
     cells.gather(part);
@@ -105,5 +103,5 @@ pub fn front<M: Map, V: Tariff>(
         return Err(Denial::new(Question::FrontSpace, Layer::Order, order.index));
     }
     // slice by slice, since a slice behind the loan of a struct cannot be lent again to be read
-    Ok(search_front(map, order, terms, work.dist, work.spread, work.table, slots))
+    Ok(search_front(map, terms, work.dist, work.spread, work.table, slots))
 }

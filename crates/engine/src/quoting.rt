@@ -6,8 +6,9 @@ ghost use Rattle.engine.specs.Calls.{room_of, room_in, held_in, SameSlices, Unto
 ghost use Rattle.engine.specs.Fronts.{most_grains_of};
 
 use crate::cells::SourceCells;
-use crate::checks::{Room, Terms, check_order};
+use crate::checks::{Room, check_order};
 use crate::search::Search;
+use crate::terms::Terms;
 use crate::workspace::Workspace;
 use netmap::{Map, Microseconds};
 use questions::{Denial, Layer, Question};
@@ -57,18 +58,15 @@ impl<M: Map, V: Tariff> Search<'_, M, V> {
 // It begins as `search_front` does: a function for those lines would need more clauses than they are.
 fn search_list<M: Map, V: Tariff>(
     map: &M,
-    order: Order,
     terms: Terms,
     dist: &mut [Option<u32>],
     spread: &mut [Option<Spread<V>>],
     table: &mut [Option<V>],
     list: &mut [u16],
 ) -> Result<Figures<V>, Denial>
-    requires granted { order_denial (M.meaning map.now) order (room_of dist.old spread.old table.old) ≡ None }
-    requires grain { terms.grain.length ≡ order.grain }
-    requires top { terms.top ≡ most_grains_of order }
-    requires space { order.limit.0 ≤ length list.old }
-    ensures { Searched (M.meaning map.now) (algebra V.good V.joining) order list.old list.new result }
+    requires granted { order_denial (M.meaning map.now) terms.order (room_of dist.old spread.old table.old) ≡ None }
+    requires space { terms.order.limit.0 ≤ length list.old }
+    ensures { Searched (M.meaning map.now) (algebra V.good V.joining) terms.order list.old list.new result }
 {
     let nodes = map.nodes();
     route(map, nodes, dist, spread);
@@ -77,7 +75,7 @@ fn search_list<M: Map, V: Tariff>(
         grain: terms.grain,
         top: terms.top,
     };
-    search.answer(order, table, list)
+    search.answer(terms.order, table, list)
 }
 
 // The segment list for an order into the first places of the list space, and its figures.
@@ -96,5 +94,5 @@ pub fn quote<M: Map, V: Tariff>(
         return Err(Denial::new(Question::ListSpace, Layer::Order, order.index));
     }
     // slice by slice, since a slice behind the loan of a struct cannot be lent again to be read
-    search_list(map, order, terms, work.dist, work.spread, work.table, list)
+    search_list(map, terms, work.dist, work.spread, work.table, list)
 }

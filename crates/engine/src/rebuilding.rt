@@ -78,7 +78,7 @@ impl<M: Map, V: Tariff> SourceCells<'_, '_, M, V> {
         let mut d = choice.grains;
         let mut prefix = V::neutral();
         let mut delay: u32 = 0;
-        // an entry's place in the list tells how many are left
+        // an entry's place in the list tells how many are left; a prefix is made anew, since a list without entries has none
         for i in 0..choice.entries {
             let rest = Prefix {
                 value: prefix,

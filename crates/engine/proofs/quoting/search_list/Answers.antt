@@ -7,8 +7,8 @@ pub invariant_of-search : goal.invariant_of-search
 invariant_of-search g c =
     let net = g.M.Map.meaning c.args.map.now in
     let room = room_of c.args.dist.now c.args.spread.now c.args.table.now in
-    let a = admitted net c.args.order room c.requires.granted in
+    let a = admitted net c.args.terms.order room c.requires.granted in
     record {
       few = omega (arith, c.nodes-nodes.ensures, (g.M.Map.sound c.args.map.now).nodes_high);
-      short = omega (arith, c.requires.top, a.top);
+      short = omega (arith, c.args.terms.top_is, a.top);
     }
