@@ -110,6 +110,7 @@ impl<V: Known> Space<V> {
 }
 
 // Opens the map, and puts the links at their places.
+// `fill` of `segments_tests` knows no empty places: one function for both would turn its arrays into arrays of options.
 pub(crate) fn lay_out(
     map: &mut RecordTable<'_>,
     nodes: u8,

@@ -7,6 +7,7 @@ use questions::Question;
 use std::alloc::Global;
 use tariff::Cost;
 
+// A row of the table below, whose delay is a plain number; tests of `segments_tests` have tables too, but of no empty places.
 fn link(tail: u8, head: u8, weight: u16, delay: u32, figure: u32) -> Option<Link> {
     Some(Link::new(tail, head, weight, Microseconds(delay), figure))
 }

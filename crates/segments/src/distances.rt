@@ -1,5 +1,6 @@
 // Distances of all pairs of nodes, by rounds of relaxation (Bellman and Ford).
 // A round reads the first working slice and writes the second, which keeps each new distance where a delay will stand: no third is lent.
+// Numbers are widened by `as`, as in `ecmp.rt`.
 // Their lengths are clauses of each function, since a slice in the field of a lent struct cannot be lent again to be read.
 ghost use Rattle.std.specs.Prelude.{◌≡◌, ◌*◌, ◌<◌, ◌≤◌, true, false, length};
 ghost use Rattle.segments.specs.Distances.{AllKnown, Known, Same, Measured, delay_in, delays};

@@ -1,4 +1,5 @@
 // The figures of node segments, over all best paths (ECMP).
+// Numbers are widened by `as`: `usize::from` is a call, and each proof would have to carry its result along.
 ghost use Rattle.std.specs.Prelude.{◌≡◌, ◌*◌, ◌<◌, ◌+◌, ◌≤◌, true, false, length, ◌≢◌};
 ghost use Rattle.segments.specs.Algebra.{algebra};
 ghost use Rattle.segments.specs.Distances.{LeastOf, Measured, lesser_of, table_of};

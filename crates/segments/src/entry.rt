@@ -1,4 +1,5 @@
 // What the entry of a segment list does at a node.
+// Numbers are widened by `as`, as in `ecmp.rt`.
 ghost use Rattle.std.specs.Prelude.{◌≡◌, ◌<◌};
 ghost use Rattle.segments.specs.Algebra.{algebra};
 ghost use Rattle.segments.specs.Entries.{Entry, Leaves, LinkLeg, node_leg};

@@ -1,4 +1,5 @@
 // Walking a given segment list.
+// Numbers are widened by `as`, as in `ecmp.rt`.
 ghost use Rattle.std.specs.Prelude.{◌≡◌, ◌<◌, ◌≤◌, length, Some, None, MatchResult};
 ghost use Rattle.segments.specs.Algebra.{algebra};
 ghost use Rattle.segments.specs.Entries.{Stays, Extended};
