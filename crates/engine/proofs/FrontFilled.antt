@@ -64,14 +64,14 @@ module _ {V : Type 0} (net : Net) (alg : Algebra V) (o : Order) (room : Room) (b
       subst (λ d. FrontBy net alg o d before after r) (sym (first_after (order_questions net o room) (last ∷ []) none ∙ yes-last)) filled
 
 -- the slots that the code counts to are those that the order leaves
-pub front_returned : {V : Type 0} (net : Net) (alg : Algebra V) → Laws alg → Sound net → (o : Order) (room : Room) (n top limit source target : ℕ) (table before part : List (Option V)) (count : ℕ)
-    → order_denial net o room ≡ None → top ≡ most_grains_of o → limit ≡ o.limit.0 → source ≡ o.source → target ≡ o.target → top + 1 ≤ length before
-    → FilledTo net alg o.grain.0 target n top limit table → Gathered alg.as_good (cells_at n top table source) (Whole limit top) part
+pub front_returned : {V : Type 0} (net : Net) (alg : Algebra V) → Laws alg → Sound net → (o : Order) (room : Room) (grain n top limit source : ℕ) (table before part : List (Option V)) (count : ℕ)
+    → order_denial net o room ≡ None → grain ≡ o.grain.0 → top ≡ most_grains_of o → limit ≡ o.limit.0 → source ≡ o.source → top + 1 ≤ length before
+    → FilledTo net alg grain o.target n top limit table → Gathered alg.as_good (cells_at n top table source) (Whole limit top) part
     → length part ≡ length (take (top + 1) before) → count ≡ held part
     → FrontCall net alg o room before (part ++ drop (top + 1) before) (Ok count)
-front_returned net alg lawful sound o room n top limit source target table before part count none top-is limit-is source-is target-is space filled gathered long count-is =
+front_returned net alg lawful sound o room grain n top limit source table before part count none grain-is top-is limit-is source-is space filled gathered long count-is =
     let a = admitted net o room none in
-    let aimed = subst (λ v. FilledTo net alg o.grain.0 v n top limit table) target-is filled in
+    let aimed = subst (λ k. FilledTo net alg k o.target n top limit table) grain-is filled in
     let filled' = subst (λ t. FilledTo net alg o.grain.0 o.target n t o.limit.0 table) top-is (subst (λ l. FilledTo net alg o.grain.0 o.target n top l table) limit-is aimed) in
     let begun = subst (λ v. Gathered alg.as_good (cells_at n top table v) (Whole limit top) part) source-is gathered in
     let gathered' = subst (λ t. Gathered alg.as_good (cells_at n t table o.source) (Whole o.limit.0 t) part) top-is (subst (λ l. Gathered alg.as_good (cells_at n top table o.source) (Whole l top) part) limit-is begun) in

@@ -13,7 +13,7 @@ use Rattle.segments.specs.Algebra.{Algebra, Laws}
 use Rattle.engine.specs.declared.checks.Room.{Room}
 use Rattle.engine.specs.declared.choosing.Choice.{Choice}
 use Rattle.engine.specs.Calls.{of_one, order_questions, order_denial, Searched, QuoteBy, QuoteCall}
-use Rattle.engine.specs.Cells.{best_of, FilledTo, Row}
+use Rattle.engine.specs.Cells.{best_of, cells_at, FilledTo, Row}
 use Rattle.engine.specs.Chosen.{LeadOf, Whole}
 use Rattle.engine.specs.Fronts.{most_grains_of}
 use Rattle.engine.specs.Rebuilds.{Written}
@@ -23,31 +23,34 @@ use Rattle.engine.proofs.OrderAdmitted.{admitted}
 use Rattle.engine.proofs.QuoteFromTable.{quoted}
 use Rattle.engine.proofs.SourceScanned.{lead_chosen}
 
-module _ {V : Type 0} (net : Net) (alg : Algebra V) (lawful : Laws alg) (sound : Sound net) (o : Order) (n top : ℕ) (top-is : top ≡ most_grains_of o) (node : o.source < net.nodes) (one : 1 ≤ o.grain.0) (table : List (Option V))
-    (filled : FilledTo net alg o.grain.0 o.target n top o.limit.0 table) where
+-- whatever the counts of the search are called
+module _ {V : Type 0} (net : Net) (alg : Algebra V) (lawful : Laws alg) (sound : Sound net) (o : Order) (grain n top limit source : ℕ) (grain-is : grain ≡ o.grain.0) (top-is : top ≡ most_grains_of o) (limit-is : limit ≡ o.limit.0) (source-is : source ≡ o.source)
+    (node : o.source < net.nodes) (one : 1 ≤ o.grain.0) (table : List (Option V)) (filled : FilledTo net alg grain o.target n top limit table) where
   abbrev best : ℕ → ℕ → ℕ → Option V
   best = best_of n top table
 
   all : (l : ℕ) → l ≤ o.limit.0 → Row net alg o.grain.0 o.target (most_grains_of o) l (best l)
-  all l h d v small on = filled l h d v (subst (λ t. d ≤ t) (sym top-is) small) on
+  all l h =
+      let row = subst (λ k. Row net alg k o.target top l (best l)) grain-is (filled l (subst (λ m. l ≤ m) (sym limit-is) h)) in
+      subst (λ t. Row net alg o.grain.0 o.target t l (best l)) top-is row
 
-  lead_to : (k : Option (Choice V)) → LeadOf alg (λ m e. best m e o.source) (Whole o.limit.0 top) k → LeadOf alg (λ m e. best m e o.source) (Whole o.limit.0 (most_grains_of o)) k
-  lead_to k = subst (λ t. LeadOf alg (λ m e. best m e o.source) (Whole o.limit.0 t) k) top-is
+  lead_to : (k : Option (Choice V)) → LeadOf alg (cells_at n top table source) (Whole limit top) k → LeadOf alg (cells_at n top table o.source) (Whole o.limit.0 (most_grains_of o)) k
+  lead_to k lead =
+      let begun = subst (λ v. LeadOf alg (cells_at n top table v) (Whole limit top) k) source-is lead in
+      let limited = subst (λ l. LeadOf alg (cells_at n top table o.source) (Whole l top) k) limit-is begun in
+      subst (λ t. LeadOf alg (cells_at n top table o.source) (Whole o.limit.0 t) k) top-is limited
 
-  pub answer_none : (before : List ℕ) (x : Denial) → x ≡ of_order AnyList o.index → LeadOf alg (λ m e. best m e o.source) (Whole o.limit.0 top) None → Searched net alg o before before (Err x)
-  answer_none before x is lead = (is, unserved net alg o lawful sound node one best all (λ l d hl hd. lead_to None lead l d (hl, hd)), refl)
+  pub searched_none : (before : List ℕ) (x : Denial) → x ≡ of_order AnyList o.index → LeadOf alg (cells_at n top table source) (Whole limit top) None → Searched net alg o before before (Err x)
+  searched_none before x is lead = (is, unserved net alg o lawful sound node one best all (λ l d hl hd. lead_to None lead l d (hl, hd)), refl)
 
-  pub answer_some : (c : Choice V) (delay : ℕ) (before after : List ℕ) (q : Figures V)
-      → LeadOf alg (λ m e. best m e o.source) (Whole o.limit.0 top) (Some c)
-      → Written net alg o.grain.0 c.value best c.grains o.source c.entries delay before after
-      → q ≡ record { value = c.value; grains = record { 0 = c.grains }; delay = record { 0 = delay }; labels = record { 0 = c.entries } }
-      → Searched net alg o before after (Ok q)
-  answer_some c delay before after q lead w is =
-      let chosen = lead_chosen net alg o best c (lead_to (Some c) lead) in
-      let k = quoted net alg lawful sound o node one best all c.value c.grains c.entries w.codes w.legs q chosen w.rebuilt
-      (ap (λ (f : Figures V). f.value) is) (ap (λ (f : Figures V). f.grains.0) is) (ap (λ (f : Figures V). f.delay.0) is ∙ w.total_delay) (ap (λ (f : Figures V). f.labels.0) is) in
-      let long : c.entries ≡ length w.codes = sym (ap (λ (f : Figures V). f.labels.0) is) ∙ k.labels in
-      (w.codes, k, w.list ∙ ap (λ j. w.codes ++ drop j before) long)
+  pub searched_some : (c : Choice V) (delay : ℕ) (before after : List ℕ) → LeadOf alg (cells_at n top table source) (Whole limit top) (Some c) → Written net alg grain c.value best c.grains source c.entries delay before after
+      → Searched net alg o before after (Ok (record { value = c.value; grains = record { 0 = c.grains }; delay = record { 0 = delay }; labels = record { 0 = c.entries } }))
+  searched_some c delay before after lead written =
+      let begun = subst (λ v. Written net alg grain c.value best c.grains v c.entries delay before after) source-is written in
+      let w = subst (λ k. Written net alg k c.value best c.grains o.source c.entries delay before after) grain-is begun in
+      let q : Figures V = record { value = c.value; grains = record { 0 = c.grains }; delay = record { 0 = delay }; labels = record { 0 = c.entries } } in
+      let k = quoted net alg lawful sound o node one best all c.value c.grains c.entries w.codes w.legs q (lead_chosen net alg o best c (lead_to (Some c) lead)) w.rebuilt refl refl w.total_delay refl in
+      (w.codes, k, w.list ∙ ap (λ j. w.codes ++ drop j before) k.labels)
 
 module _ {V : Type 0} (net : Net) (alg : Algebra V) (o : Order) (room : Room) (before after : List ℕ) (r : Result (Figures V) Denial) where
   pub quote_searched : Laws alg → order_denial net o room ≡ None → o.limit.0 ≤ length before → Searched net alg o before after r → QuoteCall net alg o room before after r

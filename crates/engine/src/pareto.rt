@@ -9,13 +9,12 @@ ghost use Rattle.engine.specs.Offers.{Gathered};
 
 use crate::cells::SourceCells;
 use crate::checks::{Room, check_order};
-use crate::search::Search;
 use crate::terms::Terms;
 use crate::workspace::Workspace;
 use keeper::{empty_slots, offer};
 use netmap::Map;
 use questions::{Denial, Layer, Question};
-use segments::{Grains, Order, Routes, Spread, route};
+use segments::{Grains, Order, Spread};
 use tariff::{Ranking, Tariff};
 
 impl<M, V: Ranking> SourceCells<'_, '_, M, V> {
@@ -67,21 +66,7 @@ fn search_front<M: Map, V: Tariff>(
     requires space { terms.top + 1 ≤ length slots.old }
     ensures { FrontCall (M.meaning map.now) (algebra V.good V.joining) terms.order (room_of dist.old spread.old table.old) slots.old slots.new (Ok result) }
 {
-    let nodes = map.nodes();
-    let limit = terms.order.limit.0 as usize;
-    route(map, nodes, dist, spread);
-    let search = Search {
-        routes: Routes { map, nodes, spread },
-        grain: terms.grain,
-        top: terms.top,
-    };
-    search.fill(limit, terms.order.target as usize, table);
-    let cells = SourceCells {
-        search,
-        table,
-        limit,
-        source: terms.order.source as usize,
-    };
+    let cells = SourceCells::of(map, terms, dist, spread, table);
     let part = &mut slots[..terms.top + 1];
     cells.gather(part);
     count_held(part)
@@ -102,6 +87,6 @@ pub fn front<M: Map, V: Tariff>(
     if slots.len() < terms.top + 1 {
         return Err(Denial::new(Question::FrontSpace, Layer::Order, order.index));
     }
-    // slice by slice, since a slice behind the loan of a struct cannot be lent again to be read
+    // slice by slice: of a slice that is lent on from a struct, the length is not known once the loan ends
     Ok(search_front(map, terms, work.dist, work.spread, work.table, slots))
 }

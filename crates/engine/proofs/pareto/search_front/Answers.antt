@@ -1,22 +1,13 @@
-use Rattle.std.proofs.Common.{◌+◌, ◌*◌, ◌<◌, ◌≤◌, length, sym, refl, subst, arith}
+use Rattle.std.proofs.Common.{◌≡◌, ap, ◌∙◌, subst}
 use Rattle.netmap.specs.declared.link.Microseconds.{Microseconds}
+use Rattle.segments.specs.declared.units.Grain.{Grain}
 use Rattle.segments.specs.Algebra.{algebra, laws}
 use Rattle.engine.specs.Calls.{room_of}
-use Rattle.engine.specs.Cells.{FilledTo}
-use Rattle.engine.specs.Fronts.{most_grains_of}
+use Rattle.engine.specs.Cells.{cells_at, FilledTo}
+use Rattle.engine.specs.Chosen.{Whole}
+use Rattle.engine.specs.Offers.{Gathered}
 use Rattle.engine.proofs.FrontFilled.{front_returned}
-use Rattle.engine.proofs.OrderAdmitted.{admitted}
 use Rattle.engine.proofs.pareto.search_front.Goals as goal
-
-pub fill-requires-clause-room : goal.fill-requires-clause-room
-fill-requires-clause-room g c =
-    let net = g.M.Map.meaning c.args.map.now in
-    let o = c.args.terms.order in
-    let room = room_of c.args.dist.now c.args.spread.now c.args.table.now in
-    let a = admitted net o room c.requires.granted in
-    let long = length c.args.table.now in
-    let nodes = subst (λ k. (o.limit.0 + 1) * k * (most_grains_of o + 1) ≤ long) (sym c.nodes-nodes.ensures) a.table in
-    subst (λ t. (o.limit.0 + 1) * c.nodes-nodes.result * (t + 1) ≤ long) (sym c.args.terms.top_is) nodes
 
 pub returns : goal.returns
 returns g c =
@@ -25,32 +16,13 @@ returns g c =
     let lawful = laws g.V.Ranking.good g.V.Tariff.joining g.met.V.Ranking.ranks g.met.V.Tariff.joins in
     let o = c.args.terms.order in
     let room = room_of c.args.dist.now c.args.spread.now c.args.table.now in
-    let none = c.requires.granted in
+    let cells = c.of-cells.result in
+    let is = c.of-cells.ensures in
+    let n = cells.search.routes.nodes in
     let top = c.args.terms.top in
-    let filled = subst (λ (m : Microseconds). FilledTo net alg m.0 o.target c.nodes-nodes.result top o.limit.0 c.fill.new.table) c.args.terms.grain_is c.fill.ensures in
-    front_returned net alg lawful (g.M.Map.sound c.args.map.now) o room c.nodes-nodes.result top o.limit.0 o.source o.target c.fill.new.table c.args.slots.now c.gather.new.slots c.count_held.result
-    none c.args.terms.top_is refl refl refl c.requires.space filled c.gather.ensures c.gather.auto.slots c.count_held.ensures
-
-pub invariant_of-search : goal.invariant_of-search
-invariant_of-search g c =
-    let net = g.M.Map.meaning c.args.map.now in
-    let room = room_of c.args.dist.now c.args.spread.now c.args.table.now in
-    let a = admitted net c.args.terms.order room c.requires.granted in
-    record {
-      few = omega (arith, c.nodes-nodes.ensures, (g.M.Map.sound c.args.map.now).nodes_high);
-      short = omega (arith, c.args.terms.top_is, a.top);
-    }
-
-pub invariant_of-cells : goal.invariant_of-cells
-invariant_of-cells g c =
-    let net = g.M.Map.meaning c.args.map.now in
-    let o = c.args.terms.order in
-    let room = room_of c.args.dist.now c.args.spread.now c.args.table.now in
-    let a = admitted net o room c.requires.granted in
-    let top = sym c.args.terms.top_is in
-    let is = sym c.nodes-nodes.ensures in
-    record {
-      few = a.limit_high;
-      node = subst (λ k. o.source < k) is a.source;
-      room = omega (arith, subst (λ t. (o.limit.0 + 1) * c.nodes-nodes.result * (t + 1) ≤ length c.args.table.now) top (subst (λ k. (o.limit.0 + 1) * k * (most_grains_of o + 1) ≤ length c.args.table.now) is a.table), c.fill.auto.table);
-    }
+    let grain : cells.search.grain.length.0 ≡ o.grain.0 = ap (λ (k : Grain). k.length.0) is.grain ∙ ap (λ (m : Microseconds). m.0) c.args.terms.grain_is in
+    let filled = subst (λ m. FilledTo (g.M.Map.meaning m) alg cells.search.grain.length.0 o.target n cells.search.top cells.limit cells.table.now) is.map is.filled in
+    let filled' = subst (λ t. FilledTo net alg cells.search.grain.length.0 o.target n t cells.limit cells.table.now) is.top filled in
+    let gathered = subst (λ t. Gathered alg.as_good (cells_at n t cells.table.now cells.source) (Whole cells.limit t) c.gather.new.slots) is.top c.gather.ensures in
+    front_returned net alg lawful (g.M.Map.sound c.args.map.now) o room cells.search.grain.length.0 n top cells.limit cells.source cells.table.now c.args.slots.now c.gather.new.slots c.count_held.result
+    c.requires.granted grain c.args.terms.top_is is.limit is.source c.requires.space filled' gathered c.gather.auto.slots c.count_held.ensures
