@@ -1,24 +1,7 @@
 // What an order and a walk come to, by the rules alone.
-use crate::lists::{List, Outcome, all_lists};
+use crate::lists::{Ask, List, Outcome, all_lists};
 use crate::routes::Net;
 use std::alloc::{AllocError, Global};
-
-// What is asked for: a list from a source to a target, within a bound and a number of entries.
-#[derive(Clone, Copy)]
-pub struct Ask {
-    pub source: u8,
-    pub target: u8,
-    pub bound: u32,
-    pub limit: u16,
-    pub grain: u32,
-}
-
-impl Ask {
-    fn allows(self, outcome: Outcome) -> bool {
-        let used = outcome.grains.checked_mul(self.grain);
-        outcome.end == self.target && used.is_some_and(|used| used <= self.bound)
-    }
-}
 
 // The grains and the value of a list.
 #[derive(Clone, Copy, PartialEq, Eq, Debug)]
@@ -35,7 +18,7 @@ impl Pair {
 }
 
 fn lists_within(heap: Global, net: &Net<'_>, ask: Ask) -> Result<Vec<List>, AllocError> {
-    let mut lists = all_lists(heap, net, ask.source, ask.limit, ask.grain)?;
+    let mut lists = all_lists(heap, net, ask)?;
     lists.retain(|list| ask.allows(list.outcome));
     Ok(lists)
 }

@@ -6,6 +6,6 @@ mod growth;
 pub mod lists;
 pub mod routes;
 
-pub use answers::{Ask, Pair, best_list, on_front, pairs_within, walked};
-pub use lists::{List, Outcome};
+pub use answers::{Pair, best_list, on_front, pairs_within, walked};
+pub use lists::{Ask, List, Outcome};
 pub use routes::{Net, Route, Rule};

@@ -6,6 +6,16 @@ use std::alloc::{AllocError, Global};
 // The code of the link at place 0.
 const FIRST_LINK: u16 = 256;
 
+// What is asked for: a list from a source to a target, within a bound and a number of entries.
+#[derive(Clone, Copy)]
+pub struct Ask {
+    pub source: u8,
+    pub target: u8,
+    pub bound: u32,
+    pub limit: u16,
+    pub grain: u32,
+}
+
 // What a list comes to: where it ends, its value, and its delay in grains and in microseconds.
 #[derive(Clone, Copy, PartialEq, Eq, Debug)]
 pub struct Outcome {
@@ -85,6 +95,13 @@ impl Outcome {
     }
 }
 
+impl Ask {
+    pub(crate) fn allows(self, outcome: Outcome) -> bool {
+        let used = outcome.grains.checked_mul(self.grain);
+        outcome.end == self.target && used.is_some_and(|used| used <= self.bound)
+    }
+}
+
 impl List {
     // With one entry more, of the given code.
     fn longer(&self, code: u16, outcome: Outcome) -> Result<List, AllocError> {
@@ -117,19 +134,13 @@ fn add_longer(
     Ok(())
 }
 
-// Every list from a source with at most so many entries, the shorter first.
-pub(crate) fn all_lists(
-    heap: Global,
-    net: &Net<'_>,
-    source: u8,
-    limit: u16,
-    grain: u32,
-) -> Result<Vec<List>, AllocError> {
+// Every list from the source within the number of entries, the shorter first, wherever it ends and whatever its delay.
+pub(crate) fn all_lists(heap: Global, net: &Net<'_>, ask: Ask) -> Result<Vec<List>, AllocError> {
     let empty = List {
         codes: Vec::new(heap),
-        outcome: Outcome::at(source),
+        outcome: Outcome::at(ask.source),
     };
-    grown(heap, empty, limit, |list, made| {
-        add_longer(net, grain, list, made)
+    grown(heap, empty, ask.limit, |list, made| {
+        add_longer(net, ask.grain, list, made)
     })
 }

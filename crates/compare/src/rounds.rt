@@ -45,69 +45,59 @@ fn count_up(count: &mut u32) {
     *count = count.saturating_add(1);
 }
 
-// The network of a round, and what is asked of it: an order, and a list to walk.
+// A round under way: its network, what is asked of it (an order, and a list to walk), and what it is lent for as long.
 #[derive(Drop)]
-struct Case<'a> {
+struct Round<'r, 'a, V> {
+    rt: &'r HostRuntime,
     net: Net<'a>,
     map: RecordTable<'a>,
     ask: Ask,
     codes: Vec<u16>,
+    space: &'r mut Space<V>,
+    counts: &'r mut Counts,
 }
 
-fn disagree(rt: &HostRuntime, call: &str, counts: &Counts) -> anyhow::Result<()> {
-    let round = counts.round;
-    println!(rt; "{call} of round {round} DISAGREES")?;
-    Ok(())
-}
+impl<V: Known> Round<'_, '_, V> {
+    fn disagree(&self, call: &str) -> anyhow::Result<()> {
+        let round = self.counts.round;
+        println!(self.rt; "{call} of round {round} DISAGREES")?;
+        Ok(())
+    }
 
-fn compare_quote<V: Known>(
-    rt: &HostRuntime,
-    case: &Case<'_>,
-    space: &mut Space<V>,
-    counts: &mut Counts,
-) -> anyhow::Result<()> {
-    let expected = best_list(rt.alloc(), &case.net, case.ask)?;
-    if !quote_agrees(&case.map, case.ask, space, expected.as_ref()) {
-        return disagree(rt, "quote", counts);
+    fn compare_quote(&mut self) -> anyhow::Result<()> {
+        let expected = best_list(self.rt.alloc(), &self.net, self.ask)?;
+        if !quote_agrees(&self.map, self.ask, self.space, expected.as_ref()) {
+            return self.disagree("quote");
+        }
+        count_up(&mut self.counts.quotes);
+        match expected {
+            Some(_) => count_up(&mut self.counts.granted),
+            None => count_up(&mut self.counts.refused),
+        }
+        Ok(())
     }
-    count_up(&mut counts.quotes);
-    match expected {
-        Some(_) => count_up(&mut counts.granted),
-        None => count_up(&mut counts.refused),
-    }
-    Ok(())
-}
 
-fn compare_front<V: Known>(
-    rt: &HostRuntime,
-    case: &Case<'_>,
-    space: &mut Space<V>,
-    counts: &mut Counts,
-) -> anyhow::Result<()> {
-    let expected = pairs_within(rt.alloc(), &case.net, case.ask)?;
-    let Some(held) = agreed_pairs(&case.map, case.ask, space, &expected) else {
-        return disagree(rt, "front", counts);
-    };
-    count_up(&mut counts.fronts);
-    counts.pairs = counts.pairs.saturating_add(held);
-    Ok(())
-}
+    fn compare_front(&mut self) -> anyhow::Result<()> {
+        let expected = pairs_within(self.rt.alloc(), &self.net, self.ask)?;
+        let Some(held) = agreed_pairs(&self.map, self.ask, self.space, &expected) else {
+            return self.disagree("front");
+        };
+        count_up(&mut self.counts.fronts);
+        self.counts.pairs = self.counts.pairs.saturating_add(held);
+        Ok(())
+    }
 
-fn compare_walk<V: Known>(
-    rt: &HostRuntime,
-    case: &Case<'_>,
-    space: &mut Space<V>,
-    counts: &mut Counts,
-) -> anyhow::Result<()> {
-    let expected = walked(&case.net, case.ask.source, case.ask.grain, &case.codes);
-    if !walk_agrees(&case.map, case.ask, &case.codes, space, expected) {
-        return disagree(rt, "walk", counts);
+    fn compare_walk(&mut self) -> anyhow::Result<()> {
+        let expected = walked(&self.net, self.ask.source, self.ask.grain, &self.codes);
+        if !walk_agrees(&self.map, self.ask, &self.codes, self.space, expected) {
+            return self.disagree("walk");
+        }
+        count_up(&mut self.counts.walks);
+        if expected.is_ok() {
+            count_up(&mut self.counts.legal);
+        }
+        Ok(())
     }
-    count_up(&mut counts.walks);
-    if expected.is_ok() {
-        count_up(&mut counts.legal);
-    }
-    Ok(())
 }
 
 pub(crate) fn compare_round<V: Known>(
@@ -123,13 +113,16 @@ pub(crate) fn compare_round<V: Known>(
     let mut records = [None; PLACES];
     let mut map = RecordTable::over(&mut records);
     lay_out(&mut map, nodes, &places).map_err(|denial| anyhow!("the map of a round is {denial}"))?;
-    let case = Case {
+    let mut round = Round {
+        rt,
         net: Net::new(rt.alloc(), V::RULE, nodes, &places)?,
         map,
         ask: random_ask(random, nodes, grain),
         codes: random_codes(rt.alloc(), random, nodes)?,
+        space,
+        counts,
     };
-    compare_quote(rt, &case, space, counts)?;
-    compare_front(rt, &case, space, counts)?;
-    compare_walk(rt, &case, space, counts)
+    round.compare_quote()?;
+    round.compare_front()?;
+    round.compare_walk()
 }

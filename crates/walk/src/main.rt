@@ -25,15 +25,7 @@ fn run(rt: &HostRuntime) -> anyhow::Result<()> {
     let mut bytes = read_input(rt.alloc(), rt.stdin(), LONGEST_MAP)?;
     let mut dist = [None; SLOTS];
     let mut spread = [None; SLOTS];
-    let text = report(
-        rt.alloc(),
-        &mut bytes,
-        request.source,
-        request.grain,
-        &request.list,
-        &mut dist,
-        &mut spread,
-    )?;
+    let text = report(rt.alloc(), &mut bytes, &request, &mut dist, &mut spread)?;
     rt.print(text)?;
     Ok(())
 }

@@ -2,7 +2,8 @@
 ghost use Rattle.std.specs.Prelude.{IfOk, string_bytes};
 ghost use Rattle.walk.specs.Texts.{WalkReports, Reports};
 
-use netmap::{Image, Map, Microseconds};
+use crate::arguments::Request;
+use netmap::{Image, Map};
 use segments::{Spread, walk};
 use std::alloc::{AllocError, Global};
 use tariff::Cost;
@@ -11,15 +12,14 @@ use tariff::Cost;
 fn report_walk<M: Map>(
     heap: Global,
     map: &M,
-    source: u8,
-    grain: Microseconds,
-    list: &[u16],
+    request: &Request,
     dist: &mut [Option<u32>],
     spread: &mut [Option<Spread<Cost>>],
 ) -> Result<String, AllocError>
-    ensures { IfOk result (λ text. WalkReports source grain.0 list.now dist.old dist.new spread.old spread.new (M.meaning map.now) (string_bytes text)) }
+    ensures { IfOk result (λ text. WalkReports request.now.source request.now.grain.0 request.now.list.items dist.old dist.new spread.old spread.new (M.meaning map.now) (string_bytes text)) }
 {
-    match walk(map, source, grain, list, dist, spread) {
+    let list = &request.list;
+    match walk(map, request.source, request.grain, list, dist, spread) {
         Ok(walked) => {
             let end = walked.end;
             let value = walked.figures.value.weight;
@@ -36,17 +36,15 @@ fn report_walk<M: Map>(
 pub(crate) fn report(
     heap: Global,
     bytes: &mut [u8],
-    source: u8,
-    grain: Microseconds,
-    list: &[u16],
+    request: &Request,
     dist: &mut [Option<u32>],
     spread: &mut [Option<Spread<Cost>>],
 ) -> Result<String, AllocError>
-    ensures { IfOk result (λ text. Reports source grain.0 list.now dist.old dist.new spread.old spread.new bytes.old (string_bytes text)) }
+    ensures { IfOk result (λ text. Reports request.now.source request.now.grain.0 request.now.list.items dist.old dist.new spread.old spread.new bytes.old (string_bytes text)) }
 {
     let mut image = Image::over(bytes);
     match image.open() {
-        Ok(()) => report_walk(heap, &image, source, grain, list, dist, spread),
+        Ok(()) => report_walk(heap, &image, request, dist, spread),
         Err(denial) => format!(in heap; "{denial}\n"),
     }
 }

@@ -1,5 +1,5 @@
 // Lines of walks and of refusals, and what the arguments ask for.
-use crate::arguments::read_words;
+use crate::arguments::{Request, read_words};
 use crate::reporting::report;
 use netmap::Microseconds;
 use std::process::Abort;
@@ -21,17 +21,14 @@ fn reported(
     list: &[u16],
     text: &str,
 ) -> Result<(), Fail> {
+    let request = Request {
+        source,
+        grain: Microseconds(grain),
+        list: Vec::from_slice(rt.alloc(), list)?,
+    };
     let mut dist = [None; 16];
     let mut spread = [None; 16];
-    let got = report(
-        rt.alloc(),
-        &mut bytes,
-        source,
-        Microseconds(grain),
-        list,
-        &mut dist,
-        &mut spread,
-    )?;
+    let got = report(rt.alloc(), &mut bytes, &request, &mut dist, &mut spread)?;
     assert_eq!(rt; got.as_str(), text);
     Ok(())
 }
