@@ -47,6 +47,7 @@ impl Route {
     }
 
     // The lighter of two; of two as light the larger delay and the worse value, since traffic may take either.
+    // Written apart from the engine's rule, which it is held against.
     fn merge(self, other: Route) -> Route {
         match self.weight.cmp(&other.weight) {
             Ordering::Less => self,
@@ -89,7 +90,7 @@ impl<'a> Net<'a> {
             places,
             routes: BTreeMap::new(heap),
         };
-        // nodes are numbers
+        // a loop, since adding routes may want memory
         for from in 0..nodes {
             let chains = net.chains_from(heap, from)?;
             net.add_routes(from, &chains)?;

@@ -91,17 +91,11 @@ impl<V: Known> Space<V> {
         front(map, order, &mut self.slices.lend(), &mut self.slots)
     }
 
-    fn walk(
-        &mut self,
-        map: &RecordTable<'_>,
-        source: u8,
-        grain: u32,
-        codes: &[u16],
-    ) -> Result<Walk<V>, Denial> {
+    fn walk(&mut self, map: &RecordTable<'_>, ask: Ask, codes: &[u16]) -> Result<Walk<V>, Denial> {
         walk(
             map,
-            source,
-            Microseconds(grain),
+            ask.source,
+            Microseconds(ask.grain),
             codes,
             &mut self.slices.dist,
             &mut self.slices.spread,
@@ -184,7 +178,7 @@ pub(crate) fn walk_agrees<V: Known>(
     space: &mut Space<V>,
     expected: Result<Outcome, usize>,
 ) -> bool {
-    match (space.walk(map, ask.source, ask.grain, codes), expected) {
+    match (space.walk(map, ask, codes), expected) {
         (Ok(walk), Ok(outcome)) => {
             outcome_of(walk.end, walk.figures) == outcome
                 && usize::from(walk.figures.labels.0) == codes.len()

@@ -13,7 +13,7 @@ use std::process::ExitCode;
 #[cfg(test)]
 mod tests;
 
-// How many bytes the longest map has: four, and twelve for each of 256 places.
+// How many bytes the longest map has: four, and twelve for each of 256 places. `netmap` keeps its numbers, and this crate needs none else of it.
 pub const LONGEST_MAP: u32 = 4 + 12 * 256;
 
 // The bytes of an input; of one that is longer than the limit, one byte more than that, so that it is seen to be.

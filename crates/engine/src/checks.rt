@@ -1,5 +1,5 @@
 // The questions that a quote and a front both ask of an order.
-// Numbers are widened by `as` here and in the calls, as in `segments`, whose proofs need not carry a call's result then.
+// Numbers are widened by `as` in this crate, as in `segments`: a proof need not carry a call's result then.
 ghost use Rattle.std.specs.Prelude.{◌≡◌, ◌+◌, ◌*◌, ◌≤◌, ◌&&◌, nat_le, Some, None, MatchResult};
 ghost use Rattle.engine.specs.Calls.{room_in, order_denial};
 

@@ -16,7 +16,7 @@ pub(crate) struct Choice<V> {
     pub entries: usize,
 }
 
-// The better of two cells; the first stays at a tie.
+// The better of two cells; the first stays at a tie, so that the fewest grains and entries win: no other choice here has that rule.
 fn lead<V: Tariff>(best: Option<Choice<V>>, next: Choice<V>) -> Choice<V>
     ensures { result ≡ lead_of (algebra V.good V.joining) best next }
 {
@@ -51,6 +51,7 @@ impl<M: Map, V: Tariff> SourceCells<'_, '_, M, V> {
     }
 
     // The cell at the source of the best value, then of the fewest grains, then of the fewest entries.
+    // `gather` goes through the same cells: a walk for both would take a closure with either's invariant as its clauses.
     pub(crate) fn choose(&self) -> Option<Choice<V>>
         ensures { LeadOf (algebra V.good V.joining) (cells_at self.now.search.routes.nodes self.now.search.top self.now.table.now self.now.source) (Whole self.now.limit self.now.search.top) result }
     {

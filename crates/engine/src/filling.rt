@@ -22,11 +22,11 @@ impl<M: Map, V: Tariff> Search<'_, M, V> {
         ensures { (target : ℕ) → Row (M.meaning self.now.routes.map.now) (algebra V.good V.joining) self.now.grain.length.0 target self.now.top l (best_of self.now.routes.nodes self.now.top below.now l) → (d : ℕ) → d ≤ self.now.top → Cell (M.meaning self.now.routes.map.now) (algebra V.good V.joining) self.now.grain.length.0 target (l + 1) d v (slice_index_or row.new d None) }
     {
         row.fill(None);
-        // codes are numbers
+        // every legal code may better the row, which `improve` then writes
         for code in 0..CODES {
             if let Some(hop) = self.hop(v, code) {
                 if hop.grains <= self.top {
-                    let rests = self.place(l, usize::from(hop.leg.to), 0);
+                    let rests = self.place(l, hop.leg.to as usize, 0);
                     improve(&below[rests..], &mut row[hop.grains..], hop.leg.value);
                 }
             }

@@ -40,7 +40,7 @@ impl<M: Map, V: Tariff> SourceCells<'_, '_, M, V> {
     {
         let Hop { leg, grains } = self.search.hop(prefix.end, code)?;
         let rest = prefix.grains.checked_sub(grains)?;
-        let suffix = self.read(prefix.left, usize::from(leg.to), rest)?;
+        let suffix = self.read(prefix.left, leg.to as usize, rest)?;
         let whole = prefix.value.join(leg.value).join(suffix);
         if whole.as_good(total) && total.as_good(whole) {
             Some(Found { code, leg, rest })
@@ -88,7 +88,7 @@ impl<M: Map, V: Tariff> SourceCells<'_, '_, M, V> {
             };
             let found = self.seek(rest, choice.value);
             list[i] = found.code;
-            v = usize::from(found.leg.to);
+            v = found.leg.to as usize;
             d = found.rest;
             prefix = prefix.join(found.leg.value);
             delay += found.leg.delay.0;

@@ -10,7 +10,7 @@ use crate::link::{Link, Microseconds};
 use crate::sizes::Sizes;
 use questions::{Denial, Layer, Question};
 
-// What an empty place has for its tail and for its head.
+// What an empty place has for its tail and for its head, as the format sets it; in memory such a place is `None`.
 const NO_NODE: u8 = 0xff;
 
 // What two bytes of ends and ten of figures say.
@@ -37,7 +37,7 @@ fn link_of(ends: &[u8], figures: &[u8]) -> Link
 }
 
 // The fields of a place, whatever they hold.
-// It asks of the bytes and of the place what `read_place` and `write_place` ask; the bytes are lent to be read here, and there to be written.
+// `read_place` and `write_place` ask the same of place and bytes; a type for the three would lend bytes to be read and to be written.
 fn read_link(bytes: &[u8], places: usize, place: usize) -> Link
     requires within { place < places }
     requires room { image_size places ≤ length bytes.now }
@@ -92,6 +92,7 @@ fn check_header(bytes: &[u8]) -> Result<Sizes, Denial>
         places: usize::from(u16::from_be_bytes([p0, p1])),
     };
     sizes.check()?;
+    // as in `store`: the bound on places is known after the check alone
     if bytes.len() != 4 + 12 * sizes.places {
         return Err(Denial::new(Question::ImageLength, Layer::File, bytes.len()));
     }

@@ -1,7 +1,7 @@
 // Distances of all pairs of nodes, by rounds of relaxation (Bellman and Ford).
 // A round reads the first working slice and writes the second, which keeps each new distance where a delay will stand: no third is lent.
+// The lengths of both are clauses of each function, since a slice in the field of a lent struct cannot be lent again to be read.
 // Numbers are widened by `as`, as in `ecmp.rt`.
-// Their lengths are clauses of each function, since a slice in the field of a lent struct cannot be lent again to be read.
 ghost use Rattle.std.specs.Prelude.{◌≡◌, ◌*◌, ◌<◌, ◌≤◌, true, false, length};
 ghost use Rattle.segments.specs.Distances.{AllKnown, Known, Same, Measured, delay_in, delays};
 ghost use Rattle.segments.specs.Relaxations.{Round, Started, Swept, Rounds, nearer};
@@ -61,10 +61,7 @@ fn shorter(best: Option<u32>, weight: u16, rest: Option<u32>) -> Option<u32>
         return best;
     };
     let sum = weight as u32 + rest;
-    match best {
-        None => Some(sum),
-        Some(best) => Some(best.min(sum)),
-    }
+    Some(best.map_or(sum, |best| best.min(sum)))
 }
 
 // Tries a link with the distance from its head, to each node.

@@ -21,7 +21,7 @@ pub(crate) struct Distances<'a, M> {
     ghost sized: { nodes * nodes ≤ length slots.now },
 }
 
-// The larger delay and the worse value: of each the better of two stays by a rule of its own, here and in `nearer`.
+// The larger delay and the worse value, where `shorter` and `nearer` keep the lesser of two.
 fn worse<V: Tariff>(found: Option<Spread<V>>, next: Spread<V>) -> Spread<V>
     ensures { result ≡ worse_of (algebra V.good V.joining) found next }
 {
@@ -60,7 +60,7 @@ fn follows(last: Option<Near>, next: Near) -> bool
     last.is_none_or(|last| last < next)
 }
 
-// The first of what there is and another.
+// The first of what there is and another, as in `shorter`: a function for both would need the order of numbers and of nodes in its contract.
 fn nearer(least: Option<Near>, next: Near) -> Near
     requires least { InNet least }
     requires next { next.node < 64 }

@@ -4,7 +4,7 @@ use netmap::Microseconds;
 
 #[derive(Clone, Copy)]
 pub struct Order {
-    // its index in the sheet, 0 outside one
+    // its index in the sheet; 0 outside one, as a refusal tells a place in any case
     pub index: usize,
     pub source: u8,
     pub target: u8,

@@ -33,10 +33,11 @@ fn check_denied(rt: &impl Abort, question: Question, call: Call) -> Result<(), F
     fill(&mut map, 4, &net_a())?;
     let list = [1; 11];
     let mut dist = [Some(7); 16];
-    let mut spread = [Some(Spread {
+    let held = Some(Spread {
         delay: Microseconds(8),
         value: Scarcity { figure: 9 },
-    }); 16];
+    });
+    let mut spread = [held; 16];
     assert!(rt; call.count <= 11 && call.dist <= 16 && call.spread <= 16);
     let reply = walk(
         &map,
@@ -49,10 +50,7 @@ fn check_denied(rt: &impl Abort, question: Question, call: Call) -> Result<(), F
     let denial = Denial::new(question, Layer::Order, 0);
     assert_eq!(rt; reply.err(), Some(denial));
     assert_eq!(rt; dist, [Some(7); 16]);
-    assert!(rt;
-        spread.iter().all(|slot| slot.is_some_and(|spread| (spread.delay.0, spread.value.figure)
-            == (8, 9)))
-    );
+    assert_eq!(rt; spread, [held; 16]);
     Ok(())
 }
 

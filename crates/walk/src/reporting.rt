@@ -33,6 +33,7 @@ fn report_walk<M: Map>(
 }
 
 // The walk over the map whose image the bytes are, or the line of the map's refusal.
+// A listing begins alike; one function for both would take what to do with the map, and its promise, as a closure.
 pub(crate) fn report(
     heap: Global,
     bytes: &mut [u8],

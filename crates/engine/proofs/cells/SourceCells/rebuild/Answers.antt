@@ -15,10 +15,9 @@ seek-found-requires-clause-some g c =
 
 pub loop-i-preserved : goal.loop-i-preserved
 loop-i-preserved g c =
-    subst (λ v. RebuiltTo (g.M.Map.meaning c.args.self.now.search.routes.map.now) (algebra g.V.Ranking.good g.V.Tariff.joining) c.args.self.now.search.grain.length.0 c.args.self.now.search.top c.args.choice.value (best_of c.args.self.now.search.routes.nodes c.args.self.now.search.top c.args.self.now.table.now) c.args.choice.grains c.args.self.now.source c.args.choice.entries c.join-prefix.result c.seek-found.result.rest v (c.loop-i.i + 1) (c.loop-i.delay + c.seek-found.result.leg.delay.0) c.args.list.now (set c.loop-i.list c.loop-i.i c.seek-found.result.code)) (sym c.from-v.ensures)
-    (list_step (g.M.Map.meaning c.args.self.now.search.routes.map.now) (algebra g.V.Ranking.good g.V.Tariff.joining) (laws g.V.Ranking.good g.V.Tariff.joining g.met.V.Ranking.ranks g.met.V.Tariff.joins) (g.M.Map.sound c.args.self.now.search.routes.map.now) c.args.self.now.search.grain.length.0 c.args.self.now.search.top c.args.choice.value (best_of c.args.self.now.search.routes.nodes c.args.self.now.search.top c.args.self.now.table.now) c.args.choice.grains c.args.self.now.source c.args.choice.entries
+    list_step (g.M.Map.meaning c.args.self.now.search.routes.map.now) (algebra g.V.Ranking.good g.V.Tariff.joining) (laws g.V.Ranking.good g.V.Tariff.joining g.met.V.Ranking.ranks g.met.V.Tariff.joins) (g.M.Map.sound c.args.self.now.search.routes.map.now) c.args.self.now.search.grain.length.0 c.args.self.now.search.top c.args.choice.value (best_of c.args.self.now.search.routes.nodes c.args.self.now.search.top c.args.self.now.table.now) c.args.choice.grains c.args.self.now.source c.args.choice.entries
     c.loop-i.prefix c.loop-i.d c.loop-i.v c.loop-i.i c.loop-i.delay c.args.list.now c.loop-i.list c.loop-i.invariant c.loop-i-test.true
-    c.seek-found.result c.join-prefix.result (omega (arith, c.loop-i-test.true, c.loop-i.auto.list, c.requires.space)) c.seek-found.ensures c.join-prefix.ensures)
+    c.seek-found.result c.join-prefix.result (omega (arith, c.loop-i-test.true, c.loop-i.auto.list, c.requires.space)) c.seek-found.ensures c.join-prefix.ensures
 
 pub returns : goal.returns
 returns g c =

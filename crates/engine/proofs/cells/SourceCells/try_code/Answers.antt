@@ -49,7 +49,7 @@ returns-in_err-suffix g c =
     let h = c.in_ok-leg.field-0 in
     let does = c.in_ok-leg.ensures in
     let is : h.grains + c.in_ok-rest.rest ≡ d = omega (arith, c.in_ok-rest.ensures) in
-    let empty : row c.in_ok-rest.rest h.leg.to ≡ None = ap (λ k. row c.in_ok-rest.rest k) (sym c.from.ensures) ∙ sym c.in_err-suffix.ensures in
+    let empty : row c.in_ok-rest.rest h.leg.to ≡ None = sym c.in_err-suffix.ensures in
     subst (TriedCode net alg grain total row p d v code) (sym c.from_residual-in_err-suffix.ensures) (code_empty net alg lawful grain total row p d v code h does c.in_ok-rest.rest is empty)
 
 pub returns-then-as_good-2 : goal.returns-then-as_good-2
@@ -68,7 +68,7 @@ returns-then-as_good-2 g c =
     let does = c.in_ok-leg.ensures in
     let is : h.grains + c.in_ok-rest.rest ≡ d = omega (arith, c.in_ok-rest.ensures) in
     let x = c.in_ok-suffix.suffix in
-    let below : row c.in_ok-rest.rest h.leg.to ≡ Some x = ap (λ k. row c.in_ok-rest.rest k) (sym c.from.ensures) ∙ sym c.in_ok-suffix.ensures in
+    let below : row c.in_ok-rest.rest h.leg.to ≡ Some x = sym c.in_ok-suffix.ensures in
     let whole : c.join-whole.result ≡ alg.join (alg.join p h.leg.value) x = c.join-whole.ensures ∙ ap (λ q. alg.join q x) c.join.ensures in
     code_found net alg lawful grain total row p d v code h does c.in_ok-rest.rest is x c.join-whole.result below whole
     (subst T (sym c.if-as_good.true ∙ c.as_good.ensures) tt) (subst T (sym c.if-as_good-2.true ∙ c.as_good-then-as_good.ensures) tt)
@@ -89,7 +89,7 @@ returns-else-as_good g c =
     let does = c.in_ok-leg.ensures in
     let is : h.grains + c.in_ok-rest.rest ≡ d = omega (arith, c.in_ok-rest.ensures) in
     let x = c.in_ok-suffix.suffix in
-    let below : row c.in_ok-rest.rest h.leg.to ≡ Some x = ap (λ k. row c.in_ok-rest.rest k) (sym c.from.ensures) ∙ sym c.in_ok-suffix.ensures in
+    let below : row c.in_ok-rest.rest h.leg.to ≡ Some x = sym c.in_ok-suffix.ensures in
     let whole : c.join-whole.result ≡ alg.join (alg.join p h.leg.value) x = c.join-whole.ensures ∙ ap (λ q. alg.join q x) c.join.ensures in
     elim c.else-as_good.branch [
       | else-as_good-via-then-as_good+else-as_good-2 w ↦

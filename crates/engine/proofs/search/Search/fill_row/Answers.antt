@@ -22,7 +22,7 @@ improve-requires g c =
     let xs = c.loop-code.row in
     let from = c.place-rests.result in
     let h = c.in-Some.hop in
-    let is : from ≡ slot n top l h.leg.to 0 = c.place-rests.ensures ∙ ap (λ k. slot n top l k 0) c.from.ensures in
+    let is : from ≡ slot n top l h.leg.to 0 = c.place-rests.ensures in
     let inside = rests_below n top l h.leg.to from (length below) (omega (arith, c.in-Some.ensures.on, c.requires.routed.nodes)) is c.requires.room in
     let long : length xs ≡ top + 1 = c.loop-code.auto.row ∙ c.fill.auto.self ∙ c.requires.long in
     omega (arith, inside, long, c.if-hop-self.true, mid_len from (length below) below (omega arith), mid_len h.grains (length xs) xs (omega arith))
@@ -45,7 +45,7 @@ loop-code-preserved g c =
       | in-Some+then-hop-self w ↦
           let from = w.place-rests.result in
           let h = w.in-Some.hop in
-          let is : from ≡ slot n top l h.leg.to 0 = w.place-rests.ensures ∙ ap (λ k. slot n top l k 0) w.from.ensures in
+          let is : from ≡ slot n top l h.leg.to 0 = w.place-rests.ensures in
           let inside = rests_below n top l h.leg.to from (length below) (omega (arith, w.in-Some.ensures.on, c.requires.routed.nodes)) is c.requires.room in
           let long : length xs ≡ top + 1 = c.loop-code.auto.row ∙ c.fill.auto.self ∙ c.requires.long in
           let cut : length w.improve.new.row ≡ length xs - h.grains = w.improve.auto.row ∙ mid_len h.grains (length xs) xs (omega arith) in
