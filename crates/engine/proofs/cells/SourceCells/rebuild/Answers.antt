@@ -1,7 +1,7 @@
-use Rattle.std.proofs.Common.{set, sym, subst, ◌+◌, arith}
+use Rattle.std.proofs.Common.{arith}
 use Rattle.segments.specs.Algebra.{algebra, laws}
 use Rattle.engine.specs.Cells.{best_of}
-use Rattle.engine.proofs.ListRebuilt.{RebuiltTo, list_start, list_some, list_step, list_end_of}
+use Rattle.engine.proofs.ListRebuilt.{list_start, list_some, list_step, list_end_of}
 use Rattle.engine.proofs.cells.SourceCells.rebuild.Goals as goal
 
 pub loop-i-init : goal.loop-i-init
