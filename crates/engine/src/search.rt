@@ -5,7 +5,7 @@ ghost use Rattle.engine.specs.Cells.{slot};
 use segments::{Grain, Routes};
 
 // The routes of a map, the length of a grain, and the largest number of grains.
-// That the routes are the map's is a clause of each call, as for `Routes`.
+// That the routes are the map's is a clause of each call, as for `Routes`; so are the bounds of a node and of a number of grains, as in `segments`.
 #[derive(Drop)]
 pub(crate) struct Search<'a, M, V> {
     pub routes: Routes<'a, M, V>,

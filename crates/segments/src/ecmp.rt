@@ -11,7 +11,8 @@ use netmap::{Link, Map, Microseconds, held};
 use tariff::Tariff;
 
 // A map with the distances of all pairs of its nodes.
-// That they are its distances is a clause of each call, as for `Routes`.
+// That they are its distances is a clause of each call, as for `Routes`, and so is that a node is below their count: a type of such nodes
+// would have to name the map that they are of. The other slice is lent to be written, so its length is a clause too.
 #[derive(Drop)]
 pub(crate) struct Distances<'a, M> {
     pub(crate) map: &'a M,
