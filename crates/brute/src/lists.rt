@@ -82,7 +82,7 @@ impl Outcome {
         }
     }
 
-    // Of a list with one entry more, if it is legal.
+    // Of a list with one entry more, if it is legal. The grain goes beside the network: it is of what is asked, and a walk asks for no more.
     pub(crate) fn then(self, net: &Net<'_>, grain: u32, code: u16) -> Option<Outcome> {
         let leap = leap_at(net, self.end, code)?;
         let grains = whole_grains(leap.delay, grain)?;

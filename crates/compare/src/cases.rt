@@ -1,4 +1,5 @@
 // Random networks, orders and lists: small figures, so that ties are common, and delays at the edges of grains.
+// The count of nodes and the grain, which a round draws first, are handed on as two numbers: a list needs the first alone, a delay the second.
 use crate::random::Random;
 use brute::Ask;
 use netmap::{Link, Microseconds};
