@@ -1,5 +1,6 @@
 // What an order and a walk come to, by the rules alone.
-use crate::lists::{Ask, List, Outcome, all_lists};
+pub use crate::lists::Ask;
+use crate::lists::{List, Outcome, all_lists};
 use crate::routes::Net;
 use std::alloc::{AllocError, Global};
 
@@ -23,13 +24,19 @@ fn lists_within(heap: Global, net: &Net<'_>, ask: Ask) -> Result<Vec<List>, Allo
     Ok(lists)
 }
 
+// The one that precedes; the second, where neither does.
+fn first_of(kept: List, next: List) -> List {
+    if kept.precedence() < next.precedence() {
+        kept
+    } else {
+        next
+    }
+}
+
 // The list within what is asked that precedes all others.
 pub fn best_list(heap: Global, net: &Net<'_>, ask: Ask) -> Result<Option<List>, AllocError> {
     let lists = lists_within(heap, net, ask)?;
-    let best = lists
-        .into_iter()
-        .min_by(|a, b| a.precedence().cmp(&b.precedence()));
-    Ok(best)
+    Ok(lists.iter().copied().reduce(first_of))
 }
 
 // The grains and the value of each list within what is asked.

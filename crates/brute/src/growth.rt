@@ -1,5 +1,6 @@
 // Growth round by round: what is new in one round is what the next one builds on.
 use std::alloc::{AllocError, Global};
+use std::ops::Range;
 
 // The first item, and all that at most so many rounds make of it, in the order of the rounds.
 // The step adds what it makes of an item.
@@ -10,32 +11,33 @@ pub(crate) fn grown<T, F>(
     step: F,
 ) -> Result<Vec<T>, AllocError>
 where
-    T: Drop,
-    F: Fn(&T, &mut Vec<T>) -> Result<(), AllocError>,
+    T: Copy,
+    F: Fn(T, &mut Vec<T>) -> Result<(), AllocError>,
     requires { F.IsAlwaysCallable step }
 {
     let mut all = Vec::new(heap);
-    let mut newest = Vec::new(heap);
-    newest.push(first)?;
+    all.push(first)?;
+    let mut newest = 0;
     for _ in 0..rounds {
-        let next = after(heap, &newest, &step)?;
-        all.append(&mut newest)?;
-        newest = next;
+        let end = all.len();
+        grow(&mut all, newest..end, &step)?;
+        newest = end;
     }
-    all.append(&mut newest)?;
     Ok(all)
 }
 
-// What the step makes of the items.
-fn after<T, F>(heap: Global, items: &[T], step: &F) -> Result<Vec<T>, AllocError>
+// Adds what the step makes of the items at these places.
+// By place: what is read grows meanwhile, so that no round has to be moved.
+fn grow<T, F>(all: &mut Vec<T>, places: Range<usize>, step: &F) -> Result<(), AllocError>
 where
-    T: Drop,
-    F: Fn(&T, &mut Vec<T>) -> Result<(), AllocError>,
+    T: Copy,
+    F: Fn(T, &mut Vec<T>) -> Result<(), AllocError>,
     requires { F.IsAlwaysCallable step.now }
 {
-    let mut made = Vec::new(heap);
-    for item in items {
-        step(item, &mut made)?;
+    for place in places {
+        if let Some(item) = all.get(place).copied() {
+            step(item, all)?;
+        }
     }
-    Ok(made)
+    Ok(())
 }

@@ -7,5 +7,5 @@ pub mod lists;
 pub mod routes;
 
 pub use answers::{Pair, best_list, on_front, pairs_within, walked};
-pub use lists::{Ask, List, Outcome};
+pub use lists::{Ask, List, Outcome, packed};
 pub use routes::{Net, Route, Rule};

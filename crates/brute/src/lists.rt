@@ -26,10 +26,24 @@ pub struct Outcome {
 }
 
 // A segment list and what it comes to.
-#[derive(PartialEq, Eq, Debug, Drop)]
+// Its codes are the digits of a number in base 512, so that a list takes no memory of its own and is copied as it stands;
+// lists of one length, up to seven entries with codes below 512, stand in the order of their numbers.
+#[derive(Clone, Copy, PartialEq, Eq, Debug)]
 pub struct List {
-    pub codes: Vec<u16>,
     pub outcome: Outcome,
+    pub entries: u16,
+    pub codes: u64,
+}
+
+fn add_digit(codes: u64, code: u16) -> u64 {
+    codes.wrapping_mul(512).wrapping_add(u64::from(code))
+}
+
+// The number that stands for the codes of a list.
+pub fn packed(codes: &[u16]) -> u64 {
+    codes
+        .iter()
+        .fold(0, |number, code| add_digit(number, *code))
 }
 
 // What an entry does at a node.
@@ -66,9 +80,12 @@ fn leap_at(net: &Net<'_>, at: u8, code: u16) -> Option<Leap> {
     }
 }
 
-// A delay in whole grains, where a part of a grain counts as one; none if a grain has no microseconds.
-fn whole_grains(delay: u32, grain: u32) -> Option<u32> {
-    (grain != 0).then(|| delay.div_ceil(grain))
+// A delay in whole grains, where a part of a grain counts as one; no number is enough if a grain has no microseconds.
+fn whole_grains(delay: u32, grain: u32) -> u32 {
+    if grain == 0 {
+        return u32::MAX;
+    }
+    delay.div_ceil(grain)
 }
 
 impl Outcome {
@@ -85,7 +102,7 @@ impl Outcome {
     // Of a list with one entry more, if it is legal. The grain goes beside the network: it is of what is asked, and a walk asks for no more.
     pub(crate) fn then(self, net: &Net<'_>, grain: u32, code: u16) -> Option<Outcome> {
         let leap = leap_at(net, self.end, code)?;
-        let grains = whole_grains(leap.delay, grain)?;
+        let grains = whole_grains(leap.delay, grain);
         Some(Outcome {
             end: leap.to,
             value: net.rule.join(self.value, leap.value),
@@ -103,32 +120,48 @@ impl Ask {
 }
 
 impl List {
+    // With no entries.
+    fn empty(source: u8) -> List {
+        List {
+            outcome: Outcome::at(source),
+            entries: 0,
+            codes: 0,
+        }
+    }
+
     // With one entry more, of the given code.
-    fn longer(&self, code: u16, outcome: Outcome) -> Result<List, AllocError> {
-        let mut codes = self.codes.clone()?;
-        codes.push(code)?;
-        Ok(List { codes, outcome })
+    fn longer(self, code: u16, outcome: Outcome) -> List {
+        List {
+            outcome,
+            entries: self.entries.saturating_add(1),
+            codes: add_digit(self.codes, code),
+        }
     }
 
     // Of two lists within an order, the one with the smaller key precedes.
-    pub(crate) fn precedence(&self) -> (u32, u32, usize, &[u16]) {
+    pub(crate) fn precedence(self) -> (u32, u32, u16, u64) {
         let Outcome { value, grains, .. } = self.outcome;
-        (value, grains, self.codes.len(), &self.codes)
+        (value, grains, self.entries, self.codes)
     }
+}
+
+// The code of the link at a place, or the last code where no code is left for it.
+fn link_code(place: usize) -> u16 {
+    u16::try_from(place).map_or(u16::MAX, |place| FIRST_LINK.saturating_add(place))
 }
 
 // Adds the lists that have one entry more than the given one.
 fn add_longer(
     net: &Net<'_>,
     grain: u32,
-    list: &List,
-    made: &mut Vec<List>,
+    list: List,
+    all: &mut Vec<List>,
 ) -> Result<(), AllocError> {
     let nodes = 0..u16::from(net.nodes);
-    let links = (FIRST_LINK..u16::MAX).take(net.places.len());
+    let links = (0..net.places.len()).map(link_code);
     for code in nodes.chain(links) {
         if let Some(outcome) = list.outcome.then(net, grain, code) {
-            made.push(list.longer(code, outcome)?)?;
+            all.push(list.longer(code, outcome))?;
         }
     }
     Ok(())
@@ -136,11 +169,7 @@ fn add_longer(
 
 // Every list from the source within the number of entries, the shorter first, wherever it ends and whatever its delay.
 pub(crate) fn all_lists(heap: Global, net: &Net<'_>, ask: Ask) -> Result<Vec<List>, AllocError> {
-    let empty = List {
-        codes: Vec::new(heap),
-        outcome: Outcome::at(ask.source),
-    };
-    grown(heap, empty, ask.limit, |list, made| {
-        add_longer(net, ask.grain, list, made)
+    grown(heap, List::empty(ask.source), ask.limit, |list, all| {
+        add_longer(net, ask.grain, list, all)
     })
 }

@@ -105,16 +105,16 @@ impl<'a> Net<'a> {
             route: Route::default(),
         };
         let rounds = u16::from(self.nodes.saturating_sub(1));
-        grown(heap, first, rounds, |chain, made| {
-            self.add_longer(*chain, made)
+        grown(heap, first, rounds, |chain, all| {
+            self.add_longer(chain, all)
         })
     }
 
     // Adds the chains that have one link more than the given one.
-    fn add_longer(&self, chain: Chain, made: &mut Vec<Chain>) -> Result<(), AllocError> {
+    fn add_longer(&self, chain: Chain, all: &mut Vec<Chain>) -> Result<(), AllocError> {
         for link in self.places.iter().flatten() {
             if link.tail == chain.end {
-                made.push(Chain {
+                all.push(Chain {
                     end: link.head,
                     route: chain.route.longer(self.rule, *link),
                 })?;
@@ -123,14 +123,22 @@ impl<'a> Net<'a> {
         Ok(())
     }
 
-    // Merges into the routes what each chain that ends elsewhere comes to.
+    // Adds the route to each other node, if any chain ends there.
     fn add_routes(&mut self, from: u8, chains: &[Chain]) -> Result<(), AllocError> {
-        for chain in chains.iter().filter(|chain| chain.end != from) {
-            self.routes
-                .entry((from, chain.end))?
-                .and_modify(|route| *route = route.merge(chain.route))
-                .or_insert(chain.route);
+        for to in (0..self.nodes).filter(|to| *to != from) {
+            if let Some(route) = route_to(chains, to) {
+                self.routes.insert((from, to), route)?;
+            }
         }
         Ok(())
     }
+}
+
+// What the chains that end at a node come to.
+fn route_to(chains: &[Chain], to: u8) -> Option<Route> {
+    chains
+        .iter()
+        .filter(|chain| chain.end == to)
+        .map(|chain| chain.route)
+        .reduce(Route::merge)
 }

@@ -1,5 +1,5 @@
 // The engine's replies, held to what enumeration found.
-use brute::{Ask, List, Outcome, Pair, Rule, on_front};
+use brute::{Ask, List, Outcome, Pair, Rule, on_front, packed};
 use engine::{Workspace, front, quote};
 use netmap::{Link, Map, Microseconds, RecordTable};
 use questions::{Denial, Question};
@@ -140,16 +140,23 @@ fn outcome_of<V: Known>(end: u8, figures: Figures<V>) -> Outcome {
     }
 }
 
+// Are these the codes of a list? Its number tells codes apart that are below 512, as those of a map are.
+fn has_codes(list: List, codes: &[u16]) -> bool {
+    packed(codes) == list.codes && codes.iter().all(|code| *code < 512)
+}
+
 pub(crate) fn quote_agrees<V: Known>(
     map: &RecordTable<'_>,
     ask: Ask,
     space: &mut Space<V>,
-    expected: Option<&List>,
+    expected: Option<List>,
 ) -> bool {
     match (space.quote(map, order_of(ask)), expected) {
         (Ok(figures), Some(list)) => {
             let codes = space.list.get(..usize::from(figures.labels.0));
-            outcome_of(ask.target, figures) == list.outcome && codes == Some(&list.codes)
+            outcome_of(ask.target, figures) == list.outcome
+                && figures.labels.0 == list.entries
+                && codes.is_some_and(|codes| has_codes(list, codes))
         }
         (Err(denial), None) => denial.question == Question::AnyList,
         _ => false,

@@ -1,10 +1,9 @@
 // Two examples of the documents: a list of 1,000 grains, and one grain too many.
 use crate::agreement::{Space, lay_out, order_of, quote_agrees};
 use anyhow::anyhow;
-use brute::{Ask, List, Outcome};
+use brute::{Ask, List, Outcome, packed};
 use netmap::{Link, Microseconds, RecordTable};
 use questions::Question;
-use std::alloc::Global;
 use tariff::Cost;
 
 // A row of the table below, whose delay is a plain number; tests of `segments_tests` have tables too, but of no empty places.
@@ -25,7 +24,7 @@ fn ask_within(bound: u32) -> Ask {
 
 // Whether the engine answers each example as it should.
 // The network is also a test's in `segments_tests`: a crate to share it would be longer than the table.
-pub(crate) fn compare_examples(heap: Global, space: &mut Space<Cost>) -> anyhow::Result<[bool; 2]> {
+pub(crate) fn compare_examples(space: &mut Space<Cost>) -> anyhow::Result<[bool; 2]> {
     let places = [
         link(0, 1, 1, 4000, 10),
         link(1, 3, 1, 4000, 40),
@@ -37,15 +36,16 @@ pub(crate) fn compare_examples(heap: Global, space: &mut Space<Cost>) -> anyhow:
     let mut map = RecordTable::over(&mut records);
     lay_out(&mut map, 4, &places).map_err(|denial| anyhow!("the map of the examples is {denial}"))?;
     let list = List {
-        codes: vec![in heap; 2, 3]?,
         outcome: Outcome {
             end: 3,
             value: 3,
             grains: 1000,
             delay: 3000,
         },
+        entries: 2,
+        codes: packed(&[2, 3]),
     };
-    let agrees = quote_agrees(&map, ask_within(3000), space, Some(&list));
+    let agrees = quote_agrees(&map, ask_within(3000), space, Some(list));
     let reply = space.quote(&map, order_of(ask_within(3003)));
     let refuses = reply.is_err_and(|denial| denial.question == Question::BoundGrains);
     Ok([agrees, refuses])

@@ -18,7 +18,7 @@ const ROUNDS: u32 = 2000;
 fn main(rt: HostRuntime) -> anyhow::Result<()> {
     let mut costs: Space<Cost> = Space::new(rt.alloc())?;
     let mut scarcities: Space<Scarcity> = Space::new(rt.alloc())?;
-    let examples = compare_examples(rt.alloc(), &mut costs)?;
+    let examples = compare_examples(&mut costs)?;
     let agreed = examples.iter().filter(|agrees| **agrees).count();
     println!(rt; "examples {agreed} agreed")?;
     let mut random = Random::new();

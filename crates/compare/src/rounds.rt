@@ -66,7 +66,7 @@ impl<V: Known> Round<'_, '_, V> {
 
     fn compare_quote(&mut self) -> anyhow::Result<()> {
         let expected = best_list(self.rt.alloc(), &self.net, self.ask)?;
-        if !quote_agrees(&self.map, self.ask, self.space, expected.as_ref()) {
+        if !quote_agrees(&self.map, self.ask, self.space, expected) {
             return self.disagree("quote");
         }
         count_up(&mut self.counts.quotes);
