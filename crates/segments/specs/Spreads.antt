@@ -5,7 +5,7 @@ use Rattle.netmap.specs.Net.{Net, link_at}
 use Rattle.segments.specs.declared.figures.Spread.{Spread}
 use Rattle.segments.specs.declared.near.Near.{Near}
 use Rattle.segments.specs.Algebra.{Algebra}
-use Rattle.segments.specs.Distances.{table_of}
+use Rattle.segments.specs.Distances.{cell, table_of}
 use Rattle.segments.specs.Paths.{Reached, Tight, Ecmp}
 
 -- the link at a place if it begins a best path, else nothing
@@ -29,6 +29,10 @@ bar_of (Some k) = rank k + 1
 abbrev pub InNet : Option Near → Type 0
 InNet None = Unit {0}
 InNet (Some k) = k.node < 64
+
+-- the distances from each of n nodes to v
+abbrev pub ColumnOf : ℕ → List (Option ℕ) → ℕ → List (Option ℕ) → Type 0
+ColumnOf n xs v ys = (u : ℕ) → u < n → cell ys u ≡ table_of n xs u v
 
 -- a node with a distance to v, by its rank
 pub record Keyed (n : ℕ) (xs : List (Option ℕ)) (v bar key : ℕ) : Type 0 where

@@ -1,14 +1,17 @@
 // The figures of node segments, over all best paths (ECMP).
 // Numbers are widened by `as`: `usize::from` is a call, and each proof would have to carry its result along.
-ghost use Rattle.std.specs.Prelude.{◌≡◌, ◌*◌, ◌<◌, ◌+◌, ◌≤◌, true, false, length, ◌≢◌};
+ghost use Rattle.std.specs.Prelude.{◌≡◌, ℕ, ◌*◌, ◌<◌, ◌+◌, ◌≤◌, true, false, length, ◌≢◌};
 ghost use Rattle.segments.specs.Algebra.{algebra};
 ghost use Rattle.segments.specs.Distances.{LeastOf, Measured, lesser_of, table_of};
-ghost use Rattle.segments.specs.Spreads.{TightAt, WayAt, FiguresOf, HeadsFigured, ColumnFigured, Figured, InNet, Keyed, Spared, EmptyAt, AllEmpty, bar_of, onward, rank, rank_of, worse_of};
+ghost use Rattle.segments.specs.Spreads.{TightAt, WayAt, FiguresOf, HeadsFigured, ColumnFigured, Figured, InNet, ColumnOf, Keyed, Spared, EmptyAt, AllEmpty, bar_of, onward, rank, rank_of, worse_of};
 
 use crate::figures::{Spread, read_slot, write_slot};
 use crate::near::Near;
 use netmap::{Link, Map, Microseconds, held};
 use tariff::Tariff;
+
+// The most nodes of a map.
+const MOST_NODES: usize = 64;
 
 // A map with the distances of all pairs of its nodes.
 // That they are its distances is a clause of each call, as for `Routes`, and so is that a node is below their count: a type of such nodes
@@ -22,7 +25,7 @@ pub(crate) struct Distances<'a, M> {
     ghost sized: { nodes * nodes ≤ length slots.now },
 }
 
-// The larger delay and the worse value, where `shorter` and `nearer` keep the lesser of two.
+// The larger delay and the worse value, where `nearer` keeps the first of two.
 fn worse<V: Tariff>(found: Option<Spread<V>>, next: Spread<V>) -> Spread<V>
     ensures { result ≡ worse_of (algebra V.good V.joining) found next }
 {
@@ -61,7 +64,7 @@ fn follows(last: Option<Near>, next: Near) -> bool
     last.is_none_or(|last| last < next)
 }
 
-// The first of what there is and another, as in `shorter`: a function for both would need the order of numbers and of nodes in its contract.
+// The first of what there is and another: a function for this and `worse` would need both rules in its contract.
 fn nearer(least: Option<Near>, next: Near) -> Near
     requires least { InNet least }
     requires next { next.node < 64 }
@@ -168,17 +171,29 @@ impl<'a, M: Map> Distances<'a, M> {
         })
     }
 
-    // The nearest node to v after the last one, and of those as near the first by number.
-    fn nearest(&self, v: usize, last: Option<Near>) -> Option<Near>
+    // The distances from each node to v, side by side: in the slice they lie a row apart, and they are gone through once for each node.
+    fn read_column(&self, v: usize, column: &mut [Option<u32>])
         requires to { v < self.now.nodes }
+        requires long { self.now.nodes ≤ length column.old }
+        ensures { ColumnOf self.now.nodes self.now.slots.now v column.new }
+    {
+        // a node's number gives its slot in both
+        for node in 0..self.nodes {
+            column[node] = self.between(node, v);
+        }
+    }
+
+    // The nearest node after the last one to the node that a column is of, and of those as near the first by number.
+    fn nearest(&self, column: &[Option<u32>], last: Option<Near>) -> Option<Near>
+        requires long { self.now.nodes ≤ length column.now }
         requires last { InNet last }
-        ensures least { LeastOf (Keyed self.now.nodes self.now.slots.now v (bar_of last)) (rank_of result) }
+        ensures least { (v : ℕ) → ColumnOf self.now.nodes self.now.slots.now v column.now → LeastOf (Keyed self.now.nodes self.now.slots.now v (bar_of last)) (rank_of result) }
         ensures node { InNet result }
     {
         let mut least = None;
         // a node's number is a part of what is looked for
         for node in 0..self.nodes {
-            if let Some(far) = self.between(node, v) {
+            if let Some(far) = column[node] {
                 let near = Near { far, node };
                 if follows(last, near) {
                     least = Some(nearer(least, near));
@@ -189,16 +204,23 @@ impl<'a, M: Map> Distances<'a, M> {
     }
 
     // The figures from each node to v, nearest first, so that each link that begins a best path leads to figures that are there.
-    fn fill_column<V: Tariff>(&self, spread: &mut [Option<Spread<V>>], v: usize)
+    fn fill_column<V: Tariff>(
+        &self,
+        column: &[Option<u32>],
+        spread: &mut [Option<Spread<V>>],
+        v: usize,
+    )
         requires measured { Measured (M.meaning self.now.map.now) self.now.nodes self.now.slots.now }
         requires space { self.now.nodes * self.now.nodes ≤ length spread.old }
         requires to { v < self.now.nodes }
         requires empty { EmptyAt self.now.nodes self.now.slots.now spread.old v }
+        requires column { ColumnOf self.now.nodes self.now.slots.now v column.now }
+        requires long { self.now.nodes ≤ length column.now }
         ensures done { ColumnFigured (M.meaning self.now.map.now) (algebra V.good V.joining) self.now.nodes spread.new v }
         ensures spared { Spared self.now.nodes v spread.old spread.new }
     {
         let mut last = None;
-        while let Some(near) = self.nearest(v, last) {
+        while let Some(near) = self.nearest(column, last) {
             let figures = self.figures_between(spread, near.node, v);
             write_slot(spread, near.node * self.nodes + v, figures);
             last = Some(near);
@@ -212,9 +234,11 @@ impl<'a, M: Map> Distances<'a, M> {
         requires empty { AllEmpty self.now.nodes self.now.slots.now spread.old }
         ensures { Figured (M.meaning self.now.map.now) (algebra V.good V.joining) self.now.nodes spread.new }
     {
+        let mut column = [None; MOST_NODES];
         // a node's number gives its column
         for v in 0..self.nodes {
-            self.fill_column(spread, v);
+            self.read_column(v, &mut column);
+            self.fill_column(&column, spread, v);
         }
     }
 }

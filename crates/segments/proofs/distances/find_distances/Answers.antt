@@ -14,8 +14,9 @@ round-requires g c =
     record {
       nodes = same;
       sized = subst (λ m. n * n ≤ m) (sym (c.loop-k.auto.dist ∙ c.start_distances.auto.dist)) c.requires.sized;
-      space = subst (λ m. n * n ≤ m) (sym c.loop-k.auto.spread) c.requires.space;
-      known = found_known net sound n same c.loop-k.k c.loop-k.dist c.loop-k.invariant.0 c.loop-k-test.true;
+      space = subst (λ m. n * n ≤ m) (sym (c.loop-k.auto.spread ∙ c.carry_over.auto.spread)) c.requires.space;
+      known = found_known net sound n same c.loop-k.k c.loop-k.dist c.loop-k.invariant.found c.loop-k-test.true;
+      carried = c.loop-k.invariant.carried;
     }
 
 pub returns-then-is_settled : goal.returns-then-is_settled
@@ -29,11 +30,11 @@ returns-then-is_settled g c =
     let spread = c.round.new.spread in
     let long = subst (λ m. n * n ≤ m) (sym (c.loop-k.auto.dist ∙ c.start_distances.auto.dist)) c.requires.sized in
     let still = same_all (n * n) old spread long (c.is_settled.ensures.yes c.if-is_settled.true) in
-    let exact : Exact net n old = round_exact net sound n same k old c.loop-k.invariant.0 (delays spread) c.round.ensures still in
+    let exact : Exact net n old = round_exact net sound n same k old c.loop-k.invariant.found (delays spread) c.round.ensures still in
     record {
       measured = record { nodes = same; sized = long; exact = exact };
       kept = still;
-      rounds = record { links = k; made = refl; enough = found_enough net sound n same k old c.loop-k.invariant.0 exact; least = c.loop-k.invariant.1 };
+      rounds = record { links = k; made = refl; enough = found_enough net sound n same k old c.loop-k.invariant.found exact; least = c.loop-k.invariant.fewest };
     }
 
 pub loop-k-preserved : goal.loop-k-preserved
@@ -46,13 +47,15 @@ loop-k-preserved g c =
     let old = c.loop-k.dist in
     let spread = c.round.new.spread in
     let new = delays spread in
-    let long = subst (λ m. n * n ≤ m) (sym (c.loop-k.auto.dist ∙ c.start_distances.auto.dist)) c.requires.sized in (
-      found_same net (k + 1) n new c.take_over.new.dist (λ i h. sym (c.take_over.ensures i h)) (round_found net sound n same k old c.loop-k.invariant.0 new c.round.ensures),
-      λ j e. ⊎_elim
+    let long = subst (λ m. n * n ≤ m) (sym (c.loop-k.auto.dist ∙ c.start_distances.auto.dist)) c.requires.sized in
+    record {
+      found = found_same net (k + 1) n new c.take_over.new.dist (λ i h. sym (c.take_over.ensures i h)) (round_found net sound n same k old c.loop-k.invariant.found new c.round.ensures);
+      fewest = λ j e. ⊎_elim
           (λ (h : k < j). omega arith)
-          (λ (h : j ≤ k). absurd (c.is_settled.ensures.no c.if-is_settled.false (same_first (n * n) old spread long (enough_still net sound n same k old c.loop-k.invariant.0 new c.round.ensures j e h))))
-          (cases_lt k j),
-    )
+          (λ (h : j ≤ k). absurd (c.is_settled.ensures.no c.if-is_settled.false (same_first (n * n) old spread long (enough_still net sound n same k old c.loop-k.invariant.found new c.round.ensures j e h))))
+          (cases_lt k j);
+      carried = c.take_over.ensures;
+    }
 
 pub unreachable-requires : goal.unreachable-requires
 unreachable-requires g c =
@@ -60,4 +63,4 @@ unreachable-requires g c =
     let sound = g.M.Map.sound c.args.map.now in
     let n = c.args.n in
     let end : c.loop-k.k ≡ n = omega arith in
-    omega (arith, c.loop-k.invariant.1 _ (enough_all net sound n c.requires.nodes), end, sound.nodes_low, c.requires.nodes)
+    omega (arith, c.loop-k.invariant.fewest _ (enough_all net sound n c.requires.nodes), end, sound.nodes_low, c.requires.nodes)

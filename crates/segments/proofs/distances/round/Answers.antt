@@ -7,7 +7,7 @@ use Rattle.segments.proofs.distances.round.Goals.{in-Some, in_default}
 pub loop-place-init : goal.loop-place-init
 loop-place-init g c =
     let net = g.M.Map.meaning c.args.map.now in
-    round_first net c.args.n c.args.dist.now (delays c.carry_over.new.spread) c.carry_over.ensures
+    round_first net c.args.n c.args.dist.now (delays c.args.spread.now) c.requires.carried
 
 pub loop-place-preserved : goal.loop-place-preserved
 loop-place-preserved g c =
