@@ -35,7 +35,10 @@ fn clear<V: Ranking>(slots: &mut [Option<V>], value: V)
     ensures { Cleared V.good value slots.old slots.new }
 {
     for slot in slots.iter_mut() {
-        *slot = slot.filter(|held| !value.as_good(*held));
+        // most slots stay as they are, and are not written
+        if slot.is_some_and(|held| value.as_good(held)) {
+            *slot = None;
+        }
     }
 }
 
