@@ -1,5 +1,5 @@
 // Storing any map as an image.
-ghost use Rattle.std.specs.Prelude.{◌≡◌, length, take, IfOk};
+ghost use Rattle.std.specs.Prelude.{◌≡◌, ◌≤◌, length, take, IfOk};
 ghost use Rattle.questions.specs.Asking.{reply, unless};
 ghost use Rattle.netmap.specs.Layout.{image_size};
 ghost use Rattle.netmap.specs.Net.{places as place_count};
@@ -16,16 +16,25 @@ pub fn store<M: Map>(map: &M, space: &mut [u8]) -> Result<usize, Denial>
     ensures after { space.new ≡ unless (store_denial (M.meaning map.now) (length space.old)) (stored (M.meaning map.now) space.old) space.old }
     ensures reopens { IfOk result (λ size. OpensAs (take size space.new) (M.meaning map.now)) }
 {
-    let sizes = Sizes::of(map);
     // a method of `Sizes` would need the bound on places, which the header's check gives only afterwards
-    let size = 4 + 12 * sizes.places;
+    let size = 4 + 12 * map.places();
     if space.len() < size {
         return Err(Denial::new(Question::StoreSpace, Layer::File, space.len()));
     }
+    lay_out(map, space);
+    Ok(size)
+}
+
+// Writes the image at the front of a space that is long enough.
+fn lay_out<M: Map>(map: &M, space: &mut [u8])
+    requires { image_size (place_count (M.meaning map.now)) ≤ length space.old }
+    ensures after { space.new ≡ stored (M.meaning map.now) space.old }
+    ensures reopens { OpensAs (take (image_size (place_count (M.meaning map.now))) space.new) (M.meaning map.now) }
+{
+    let sizes = Sizes::of(map);
     write_sizes(space, sizes);
     // a place is read and written by its number
     for place in 0..sizes.places {
         write_place(space, sizes.places, place, held(map, place));
     }
-    Ok(size)
 }

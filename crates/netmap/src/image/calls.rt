@@ -4,7 +4,7 @@ ghost use Rattle.questions.specs.Asking.{reply, unless};
 ghost use Rattle.netmap.specs.Changes.{with_place, put_denial, put_reply, after_put, remove_denial, remove_reply, after_remove};
 ghost use Rattle.netmap.specs.Images.{image_net, image_sound, bytes_of};
 ghost use Rattle.netmap.specs.Layout.{encode, Images};
-ghost use Rattle.netmap.specs.Net.{Fit, places as place_count};
+ghost use Rattle.netmap.specs.Net.{Fit, link_at, places as place_count};
 ghost use Rattle.netmap.specs.Opening.{no_places};
 ghost use Rattle.netmap.specs.Reading.{image_denial, decode};
 
@@ -55,6 +55,13 @@ impl<'a> Image<'a> {
         self.sizes.unwrap_or(Sizes::NO_PLACES)
     }
 
+    fn held(&self, place: usize) -> Option<Link>
+        requires { place < place_count (image_net self.now) }
+        ensures { result ≡ link_at (image_net self.now) place }
+    {
+        read_place(self.bytes, self.sizes().places, place)
+    }
+
     // Shuts the image while the place is written, so that what is half written means nothing.
     fn change(&mut self, place: usize, held: Option<Link>)
         requires within { place < place_count (image_net self.old) }
@@ -84,9 +91,8 @@ impl<'a> Map for Image<'a> {
     }
 
     fn read(&self, place: usize) -> Result<Option<Link>, Denial> {
-        let sizes = self.sizes();
-        sizes.check_place(place)?;
-        Ok(read_place(self.bytes, sizes.places, place))
+        self.sizes().check_place(place)?;
+        Ok(self.held(place))
     }
 
     fn put(&mut self, place: usize, link: Link) -> Result<(), Denial>

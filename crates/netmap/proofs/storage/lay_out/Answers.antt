@@ -1,11 +1,11 @@
-use Rattle.std.proofs.Common.{◌≡◌, ◌≤◌, ◌++◌, length, take, sym, subst, arith, rules, le-leb}
+use Rattle.std.proofs.Common.{◌≡◌, ◌≤◌, ◌++◌, length, take, sym, subst, arith}
 use Rattle.netmap.specs.Layout.{two_bytes, image_size}
 use Rattle.netmap.specs.Net.{places}
 use Rattle.netmap.specs.Spans.{Written}
 use Rattle.netmap.specs.Storing.{stored, OpensAs}
 use Rattle.netmap.proofs.Layouts.{header}
 use Rattle.netmap.proofs.Storing.{Filled, all_stored, stored_opens}
-use Rattle.netmap.proofs.storage.store.Goals as goal
+use Rattle.netmap.proofs.storage.lay_out.Goals as goal
 
 pub returns : goal.returns
 returns g c =
@@ -15,7 +15,7 @@ returns g c =
     let is = c.of-sizes.ensures in
     let mid = c.write_sizes.new.bytes in
     let last = c.loop-place.space in
-    let room : image_size (places net) ≤ length old = omega (arith, is.places, c.if-space-size.false) in
+    let room : image_size (places net) ≤ length old = c.requires in
     let sized : Written old mid 0 (header net) 4 =
     subst (λ m. Written old mid 0 (two_bytes net.nodes ++ two_bytes m) 4) is.places
     (subst (λ n. Written old mid 0 (two_bytes n ++ two_bytes s.places) 4) is.nodes c.write_sizes.ensures) in
@@ -24,7 +24,6 @@ returns g c =
     let all : last ≡ stored net old = all_stored old mid last net sized filled room in
     let opens : OpensAs (take (image_size (places net)) last) net = subst (λ x. OpensAs (take (image_size (places net)) x) net) (sym all) (stored_opens net old (g.M.Map.sound c.args.map.now)) in
     record {
-      reply = search rules;
-      after = simp (le-leb (image_size (places net)) (length old) room) all;
-      reopens = subst (λ m. OpensAs (take (image_size m) last) net) (sym is.places) opens;
+      after = all;
+      reopens = opens;
     }
