@@ -1,6 +1,6 @@
 -- From the gathered cells to the front of an order, and the denials of a front.
-use Rattle.std.proofs.Common.{◌≡◌, ℕ, ◌+◌, ◌<◌, ◌≤◌, Bool, leb, List, [], ◌∷◌, ◌++◌, length, take, drop, None, Ok, Option, Result, sym, ap, ◌∙◌, subst, arith, length-append, length-drop}
-use Rattle.std.proofs.lemmas.Bool.{le-leb}
+use Rattle.std.proofs.Common.{◌≡◌, ℕ, ◌+◌, ◌<◌, ◌≤◌, Bool, leb, List, [], ◌∷◌, ◌++◌, length, take, drop, Some, None, Ok, Err, Option, Result, sym, refl, ap, ◌∙◌, subst, arith, length-append, length-drop}
+use Rattle.std.proofs.lemmas.Bool.{le-leb, lt-leb}
 use Rattle.std.proofs.lemmas.List.{take_at, drop_at, length-take-le}
 use Rattle.questions.specs.declared.denial.Denial.{Denial}
 use Rattle.netmap.specs.Net.{Net, Sound}
@@ -17,7 +17,8 @@ use Rattle.engine.proofs.QuoteFromTable.{Offered, offers_cover}
 use Rattle.engine.specs.Offers.{Gathered}
 use Rattle.questions.specs.declared.denial.Question.TheVariants.{FrontSpace}
 use Rattle.questions.specs.Asking.{first_no}
-use Rattle.questions.proofs.Asking.{first_after}
+use Rattle.questions.specs.Denials.{of_order}
+use Rattle.questions.proofs.Asking.{first_after, first_before}
 use Rattle.engine.specs.declared.checks.Room.{Room}
 use Rattle.engine.specs.Calls.{of_one, order_questions, order_denial, Filled, FrontBy, FrontCall}
 
@@ -79,3 +80,16 @@ front_returned net alg lawful sound o room grain n top limit source table before
     let all : length part ≡ most_grains_of o + 1 = long ∙ length-take-le (top + 1) before space ∙ ap (λ t. t + 1) top-is in
     front_call net alg o room before (part ++ drop (top + 1) before) (Ok count) none (subst (λ t. t + 1 ≤ length before) top-is space)
     (front_filled net alg o before part (top + 1) count (ap (λ t. t + 1) top-is) space all had count-is)
+
+-- denied by what both calls ask, or by what the front asks of its slots
+module _ {V : Type 0} (net : Net) (alg : Algebra V) (o : Order) (room : Room) (before : List (Option V)) (r : Result ℕ Denial) where
+  pub front_denied : (x : Denial) → order_denial net o room ≡ Some x → r ≡ Err x → FrontCall net alg o room before before r
+  front_denied x e q =
+      let last = of_one o FrontSpace (leb (most_grains_of o + 1) (length before)) in
+      subst (λ d. FrontBy net alg o d before before r) (sym (first_before (order_questions net o room) (last ∷ []) x e)) (q, refl)
+
+  pub front_cramped : order_denial net o room ≡ None → length before < most_grains_of o + 1 → r ≡ Err (of_order FrontSpace o.index) → FrontCall net alg o room before before r
+  front_cramped none short q =
+      let last = of_one o FrontSpace (leb (most_grains_of o + 1) (length before)) in
+      let no_last : first_no (last ∷ []) ≡ Some (of_order FrontSpace o.index) = ap (λ b. first_no (of_one o FrontSpace b ∷ [])) (lt-leb (most_grains_of o + 1) (length before) short) in
+      subst (λ d. FrontBy net alg o d before before r) (sym (first_after (order_questions net o room) (last ∷ []) none ∙ no_last)) (q, refl)

@@ -1,12 +1,12 @@
 -- From the searched table to the quote, and the denials of a quote.
 use Rattle.std.proofs.Common.{◌≡◌, ℕ, ◌<◌, ◌≤◌, leb, List, [], ◌∷◌, ◌++◌, length, drop, Some, None, Ok, Err, Option, Result, sym, refl, ap, ◌∙◌, subst}
-use Rattle.std.proofs.lemmas.Bool.{le-leb}
+use Rattle.std.proofs.lemmas.Bool.{le-leb, lt-leb}
 use Rattle.questions.specs.declared.denial.Denial.{Denial}
 use Rattle.questions.specs.declared.denial.Question.TheVariants.{ListSpace, AnyList}
 use Rattle.questions.specs.Asking.{first_no}
 use Rattle.questions.specs.Denials.{of_order}
 use Rattle.netmap.specs.Net.{Net, Sound}
-use Rattle.questions.proofs.Asking.{first_after}
+use Rattle.questions.proofs.Asking.{first_after, first_before}
 use Rattle.segments.specs.declared.figures.Figures.{Figures}
 use Rattle.segments.specs.declared.order.Order.{Order}
 use Rattle.segments.specs.Algebra.{Algebra, Laws}
@@ -59,3 +59,16 @@ module _ {V : Type 0} (net : Net) (alg : Algebra V) (o : Order) (room : Room) (b
       let yes-last : first_no (last ∷ []) ≡ None = ap (λ b. first_no (of_one o ListSpace b ∷ [])) (le-leb o.limit.0 (length before) space) in
       subst (λ d. QuoteBy net alg o d before after r) (sym (first_after (order_questions net o room) (last ∷ []) none ∙ yes-last))
       (s, bound_kept net alg lawful o before after r (admitted net o room none).grain_low s)
+
+-- denied by what both calls ask, or by what the quote asks of the list space
+module _ {V : Type 0} (net : Net) (alg : Algebra V) (o : Order) (room : Room) (before : List ℕ) (r : Result (Figures V) Denial) where
+  pub quote_denied : (x : Denial) → order_denial net o room ≡ Some x → r ≡ Err x → QuoteCall net alg o room before before r
+  quote_denied x e q =
+      let last = of_one o ListSpace (leb o.limit.0 (length before)) in
+      subst (λ d. QuoteBy net alg o d before before r) (sym (first_before (order_questions net o room) (last ∷ []) x e)) (q, refl)
+
+  pub quote_cramped : order_denial net o room ≡ None → length before < o.limit.0 → r ≡ Err (of_order ListSpace o.index) → QuoteCall net alg o room before before r
+  quote_cramped none short q =
+      let last = of_one o ListSpace (leb o.limit.0 (length before)) in
+      let no_last : first_no (last ∷ []) ≡ Some (of_order ListSpace o.index) = ap (λ b. first_no (of_one o ListSpace b ∷ [])) (lt-leb o.limit.0 (length before) short) in
+      subst (λ d. QuoteBy net alg o d before before r) (sym (first_after (order_questions net o room) (last ∷ []) none ∙ no_last)) (q, refl)
